@@ -1,0 +1,27 @@
+-- How long what is built is: 14 bytes of Ethernet, 20 of IPv4, and the payload.
+use Prim.Native.Nat.{ℕ, _+_, _≤_}
+use mathlib.Core.Path.{_≡_, refl}
+use mathlib.Core.List.{List, _++_}
+use native.Mathlib.Omega.{arith}
+use lib.ListN.{length, length-append}
+use Rattle.frames.specs.Ethernet.{ethernet}
+use Rattle.frames.specs.Rfc791.{header, headerWith, ipFrame}
+use Rattle.frames.specs.Network.{gatewayMac}
+
+pub length-ethernet : (mac : List ℕ) (type : ℕ) → length mac ≡ 6 → length (ethernet mac gatewayMac type) ≡ 14
+length-ethernet mac type h = simp length-append (omega arith)
+
+module _ (source target : List ℕ) (four : length source ≡ 4) (four′ : length target ≡ 4) where
+  pub length-headerWith : (sum total id protocol : ℕ) → length (headerWith sum total id protocol source target) ≡ 20
+  unfolding headerWith
+  length-headerWith sum total id protocol = simp length-append (omega arith)
+
+  pub length-header : (total id protocol : ℕ) → length (header total id protocol source target) ≡ 20
+  unfolding header
+  length-header total id protocol = length-headerWith _ total id protocol
+
+  pub length-ipFrame : (mac payload : List ℕ) (id protocol : ℕ) → length mac ≡ 6
+      → length (ipFrame mac id protocol source target payload) ≡ 34 + length payload
+  unfolding ipFrame
+  length-ipFrame mac payload id protocol h =
+      simp length-append (omega (arith, length-ethernet mac 0x0800 h, length-header (20 + length payload) id protocol))

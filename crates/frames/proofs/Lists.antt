@@ -1,0 +1,92 @@
+-- Lists of bytes: a list of known length is its elements, and what a buffer holds after pieces are put into it.
+use Prim.Native.Nat.{ℕ, zero, suc, _+_, _≤_, _-_}
+use mathlib.Core.Path.{_≡_, refl, ap, ap₂, sym, _∙_}
+use mathlib.Core.List.{List, [], _∷_, _++_, append-assoc, append-nil}
+use native.Mathlib.Omega.{arith}
+use lib.ListN.{length, getD, take, drop, length-append, length-take, length-drop, drop-of-length-le, take-append-drop, List·getD-eq-default}
+use native.Mathlib.Nat.{add-assoc, zero-add, le-of-eq}
+use lib.Seq.{drop-cons, take-all, take-length, drop-drop, take-at, drop-at, length-take-le, take-append-seam}
+use Rattle.frames.specs.Bytes.{put, part, bytesAt, u8At}
+
+-- past the end a byte reads as 0
+pub past-end : (s : List ℕ) (at : ℕ) → length s ≤ at → u8At s at ≡ 0
+past-end s at h = List·getD-eq-default s 0 h
+
+-- a part that lies within the list is its bytes, one by one
+pub part-bytes : (s : List ℕ) (n a : ℕ) → a + n ≤ length s → take n (drop a s) ≡ bytesAt s a n
+part-bytes s zero a h = refl
+part-bytes s (suc n) a h = rw (drop-cons s a 0 (omega arith)) (ap (λ (l : List ℕ). getD s a 0 ∷ l) (part-bytes s n (suc a) (omega arith)))
+
+-- a list of length `n` is its `n` elements
+pub all-bytes : (s : List ℕ) (n : ℕ) → length s ≡ n → s ≡ bytesAt s 0 n
+all-bytes s n h = sym (take-all n s (omega arith)) ∙ part-bytes s n 0 (omega arith)
+
+module _ (at : ℕ) (s b : List ℕ) (fits : at + length s ≤ length b) where
+  -- what lies in front of a piece's end
+  length-front : length (take at b ++ s) ≡ at + length s
+  length-front = simp (length-append, length-take) (omega arith)
+
+  -- a buffer keeps its length
+  pub length-put : length (put at s b) ≡ length b
+  unfolding put
+  length-put = simp (length-append, length-take, length-drop) (omega arith)
+
+  -- what was put is there
+  pub part-put : part (put at s b) at (length s) ≡ s
+  unfolding put
+  part-put = rw (append-assoc, drop-at (take at b) (s ++ drop (at + length s) b) at (length-take-le at b (omega arith))) (take-append-seam s _)
+
+  -- behind it the buffer is as it was
+  pub drop-put : drop (at + length s) (put at s b) ≡ drop (at + length s) b
+  unfolding put
+  drop-put = drop-at (take at b ++ s) _ _ length-front
+
+-- what a copy into the rest of a buffer from `at` on leaves in the whole of it
+pub copied : (at : ℕ) (s b rest : List ℕ) → at ≤ length b
+    → rest ≡ take (length s) s ++ drop (length s) (take (length b - at) (drop at b))
+    → take at b ++ (rest ++ drop (length b - at) (drop at b)) ≡ put at s b
+unfolding put
+copied at s b rest h e =
+    rw (e, take-length s, take-all (length b - at) (drop at b) (le-of-eq (length-drop at b)), drop-of-length-le (drop at b) {i = length b - at} (le-of-eq (length-drop at b)))
+    (simp (append-nil, append-assoc, drop-drop))
+
+-- two pieces, the second right behind the first, are one piece
+pub put-put : (at : ℕ) (s t b : List ℕ) → at + (length s + length t) ≤ length b → put (at + length s) t (put at s b) ≡ put at (s ++ t) b
+unfolding put
+put-put at s t b h = ap₂ (λ (x y : List ℕ). x ++ t ++ y) front behind ∙ regroup
+  where
+    fits : at + length s ≤ length b
+    fits = omega arith
+
+    front : take (at + length s) (put at s b) ≡ take at b ++ s
+    front = take-at (take at b ++ s) _ _ (length-front at s b fits)
+
+    behind : drop (at + length s + length t) (put at s b) ≡ drop (at + length s + length t) b
+    behind = sym (drop-drop (length t) (at + length s) _) ∙ ap (drop (length t)) (drop-put at s b fits) ∙ drop-drop (length t) (at + length s) b
+
+    regroup : take at b ++ s ++ t ++ drop (at + length s + length t) b ≡ put at (s ++ t) b
+    regroup = simp (append-assoc, length-append, add-assoc)
+
+-- the same of a third piece behind two
+pub put-behind : (at : ℕ) (s t u b : List ℕ) → at + (length s + length t + length u) ≤ length b
+    → put (at + length s + length t) u (put at (s ++ t) b) ≡ put at (s ++ t ++ u) b
+put-behind at s t u b h =
+    let both : length (s ++ t) ≡ length s + length t = length-append s t in
+    ap (λ (n : ℕ). put n u (put at (s ++ t) b)) (omega arith) ∙ put-put at (s ++ t) u b (omega arith)
+
+-- what is put at the front
+pub put-front : (s b : List ℕ) → put 0 s b ≡ s ++ drop (length s) b
+unfolding put
+put-front s b = ap (λ (n : ℕ). s ++ drop n b) (zero-add (length s))
+
+-- two headers in front of `len` bytes that lie behind them already
+pub put-headers : (e h b : List ℕ) (len : ℕ) → length e + length h + len ≤ length b
+    → put (length e) h (put 0 e b) ≡ (e ++ h ++ part b (length e + length h) len) ++ drop (length e + length h + len) b
+put-headers e h b len fits =
+    ap (λ (n : ℕ). put n h (put 0 e b)) (sym (zero-add (length e)))
+    ∙ put-put 0 e h b (omega arith)
+    ∙ put-front (e ++ h) b
+    ∙ rw (length-append) (ap (λ (l : List ℕ). e ++ h ++ l) (sym behind) ∙ sym (append-assoc (e ++ h) _ _))
+  where
+    behind : part b (length e + length h) len ++ drop (length e + length h + len) b ≡ drop (length e + length h) b
+    behind = rw (← drop-drop len (length e + length h) b) (take-append-drop len (drop (length e + length h) b))

@@ -1,0 +1,91 @@
+-- Laws of the RFC 1071 sum: what a fold is, by its remainder; pieces of even length are summed one after the other.
+use Prim.Native.Nat.{ℕ, zero, suc, _+_, _*_, _-_, _/_, _%_, _≤_, _<_}
+use mathlib.Core.Path.{_≡_, refl, ap, sym, _∙_}
+use mathlib.Core.List.{List, [], _∷_, _++_, append-assoc}
+use native.Mathlib.Omega.{arith}
+use borrow.Author.Tests.{eq-eqb, ne-eqb}
+use native.Mathlib.Nat.{zero-add}
+use native.Mathlib.Numerals.{add-one, add-two}
+use lib.ListN.{length, take, drop, getD, drop-of-length-le, length-take, length-drop, take-append-drop}
+use lib.Seq.{drop-cons, drop-drop}
+use Rattle.frames.specs.Rfc1071.{words, sum, total, fold, checksum}
+
+-- "0 if S is 0"
+pub fold-zero : fold 0 ≡ 0
+unfolding fold
+fold-zero = refl
+
+-- "else (S - 1) mod 65,535 + 1"
+pub fold-pos : (s : ℕ) → 0 < s → fold s ≡ (s - 1) % 65535 + 1
+unfolding fold
+fold-pos s h = simp (ne-eqb s 0 (omega arith))
+
+-- a fold that was already done changes nothing
+pub fold-fold : (a b : ℕ) → fold (fold a + b) ≡ fold (a + b)
+fold-fold zero b = rw fold-zero
+fold-fold (suc a) b = rw (fold-pos (suc a) (omega arith), fold-pos ((suc a - 1) % 65535 + 1 + b) (omega arith), fold-pos (suc a + b) (omega arith)) (omega arith)
+
+pub fold-small : (s : ℕ) → s ≤ 65535 → fold s ≡ s
+fold-small zero h = fold-zero
+fold-small (suc s) h = rw (fold-pos (suc s) (omega arith)) (omega arith)
+
+-- two folds of a 32-bit total are the fold
+pub two-folds : (s : ℕ) → s < 4294967296 → (s / 65536 + s % 65536) / 65536 + (s / 65536 + s % 65536) % 65536 ≡ fold s
+two-folds zero h = sym fold-zero
+two-folds (suc s) h = rw (fold-pos (suc s) (omega arith)) (omega arith)
+
+-- a piece of even length is summed by itself
+pub total-append : (k : ℕ) (s t : List ℕ) → length s ≡ k * 2 → total (s ++ t) ≡ total s + total t
+unfolding total words sum
+total-append zero [] t h = omega arith
+total-append zero (_ ∷ _) t h = omega arith
+total-append (suc k) [] t h = omega arith
+total-append (suc k) (a ∷ []) t h = omega arith
+total-append (suc k) (a ∷ b ∷ s) t h = rw (total-append k s t (omega arith)) (omega arith)
+
+-- one word on: the sum of what is left from `i` on is a word and the sum of what is left from `i + 2` on
+pub total-step : (s : List ℕ) (i : ℕ) → i + 1 < length s → total (drop i s) ≡ getD s i 0 * 256 + getD s (i + 1) 0 + total (drop (i + 2) s)
+unfolding total words sum
+total-step s i h = rw (drop-cons s i 0 (omega arith), drop-cons s (suc i) 0 (omega arith), add-one, add-two)
+
+-- an odd last byte counts as the high half
+pub total-last : (s : List ℕ) (i : ℕ) → i + 1 ≡ length s → total (drop i s) ≡ getD s i 0 * 256
+unfolding total words sum
+total-last s i h = rw (drop-cons s i 0 (omega arith), drop-of-length-le s {i = suc i} (omega arith)) (omega arith)
+
+-- nothing left
+pub total-none : (s : List ℕ) (i : ℕ) → length s ≤ i → total (drop i s) ≡ 0
+unfolding total words sum
+total-none s i h = rw (drop-of-length-le s {i = i} h)
+
+-- a piece of 65,536 bytes more: what is folded so far and what is left fold to the same
+pub fold-piece : (s : List ℕ) (at end n running : ℕ) → n ≡ 65536 → at + n ≡ end → end ≤ length s
+    → fold (fold (running + total (take n (drop at s))) + total (drop end s)) ≡ fold (running + total (drop at s))
+fold-piece s at end n running e f h = fold-fold (running + total (take n (drop at s))) (total (drop end s)) ∙ ap fold whole
+  where
+    halves : total (take n (drop at s) ++ drop n (drop at s)) ≡ total (take n (drop at s)) + total (drop n (drop at s))
+    halves = total-append 32768 (take n (drop at s)) (drop n (drop at s)) (simp (length-take, length-drop) (omega arith))
+
+    whole : running + total (take n (drop at s)) + total (drop end s) ≡ running + total (drop at s)
+    whole = let e′ = rw (take-append-drop, drop-drop, f) at halves in omega arith
+
+-- a sum is continued over a second piece
+pub fold-more : (start k : ℕ) (s t : List ℕ) → length s ≡ k * 2 → fold (fold (start + total s) + total t) ≡ fold (start + total (s ++ t))
+fold-more start k s t h = fold-fold (start + total s) (total t) ∙ ap fold (omega (arith, total-append k s t h))
+
+-- four pieces summed one after the other, with no copy that joins them
+pub checksum-pieces : (p h o d : List ℕ) (i j k : ℕ) → length p ≡ i * 2 → length h ≡ j * 2 → length o ≡ k * 2
+    → 65535 - fold (fold (fold (fold (0 + total p) + total h) + total o) + total d) ≡ checksum (p ++ (h ++ o ++ d))
+unfolding checksum
+checksum-pieces p h o d i j k ep eh eo =
+    rw (
+      zero-add,
+      fold-fold (total p) (total h),
+      fold-fold (total p + total h) (total o),
+      fold-fold (total p + total h + total o) (total d),
+      total-append i p (h ++ o ++ d) ep,
+      append-assoc h o d,
+      total-append j h (o ++ d) eh,
+      total-append k o d eo,
+    )
+    (ap (λ (n : ℕ). 65535 - fold n) (omega arith))

@@ -1,0 +1,92 @@
+-- `tcp::segment_checksum` meets its contract: the sum goes over four pieces, of which all but the last have an even length.
+use Prim.Native.Nat.{ℕ, _+_, _-_, _/_}
+use mathlib.Core.Path.{_≡_, ap, _∙_}
+use mathlib.Core.List.{List, _++_}
+use native.Mathlib.Omega.{arith}
+use borrow.Author.Needs.{needs}
+use lib.ListN.{length, length-append}
+use Rattle.frames.specs.Rfc1071.{total, fold, checksum}
+use Rattle.frames.specs.Rfc768.{pseudoHeader}
+use Rattle.frames.specs.Rfc9293.{covered}
+use Rattle.frames.proofs.SumLaws.{checksum-pieces}
+use Rattle.frames.proofs.tcp.segment_checksum.Statement.{statement}
+use Rattle.frames.proofs.tcp.segment_checksum.Tie as tie
+use Rattle.frames.proofs.tcp.segment_checksum.Reads as reads
+use Rattle.frames.proofs.tcp.segment_checksum.Lts as lts
+use Rattle.frames.proofs.sums.sum.Reads as sum-reads
+use Rattle.frames.proofs.udp.pseudo_header.Reads as pseudo-header-reads
+
+-- src/tcp.rt:108:15
+add-len : tie.Need-add-len
+add-len c = search needs
+
+-- src/tcp.rt:108:15
+add-len-2 : tie.Need-add-len-2
+add-len-2 c = search needs
+
+-- src/tcp.rt:109:62
+cast-pseudo-header : tie.Need-cast-pseudo-header
+cast-pseudo-header c = search needs
+
+-- src/tcp.rt:109:18
+pseudo-header-requires : tie.Need-pseudo-header-requires
+pseudo-header-requires c κs = search needs
+
+-- src/tcp.rt:110:32
+slice-aggregate-sum : tie.Need-slice-aggregate-sum
+slice-aggregate-sum c = search needs
+
+-- src/tcp.rt:110:25
+sum-requires : tie.Need-sum-requires
+sum-requires c κs = search needs
+
+-- src/tcp.rt:110:21
+sum-requires-2 : tie.Need-sum-requires-2
+sum-requires-2 c κs = search needs
+
+-- src/tcp.rt:110:17
+sum-requires-3 : tie.Need-sum-requires-3
+sum-requires-3 c κs = search needs
+
+-- src/tcp.rt:110:13
+sum-requires-4 : tie.Need-sum-requires-4
+sum-requires-4 c κs = search needs
+
+-- src/tcp.rt:110:5
+sub-result : tie.Need-sub-result
+sub-result c = search needs
+
+-- src/tcp.rt:97:1
+returns : tie.Need-returns
+unfolding covered
+returns c =
+    let a = c .before .before .before .before .before .before .before .before .before .args in
+    let h = a .header .now in
+    let o = a .options .now in
+    let d = a .data .now in
+    let p = c .before .before .before .before .before .before .pseudo-header .result in
+    let len : 20 + length o + length d ≡ length (h ++ o ++ d) = simp length-append (omega arith) in
+    let pseudo : p ≡ pseudoHeader (a .src-ip) (a .dst-ip) 6 (length (h ++ o ++ d)) = rw (← len) (c .before .before .before .before .before .before .pseudo-header .ensures) in
+    ap (λ (n : ℕ). 65535 - n)
+    (c .sum4 .ensures
+    ∙ ap (λ (n : ℕ). fold (n + total d))
+    (c .before .sum3 .ensures
+    ∙ ap (λ (n : ℕ). fold (n + total o)) (c .before .before .sum2 .ensures ∙ ap (λ (n : ℕ). fold (n + total h)) (c .before .before .before .before .sum .ensures))))
+    ∙ checksum-pieces p h o d 6 10 (length o / 2) (omega arith) (omega arith) (omega arith)
+    ∙ ap (λ (l : List ℕ). checksum (l ++ (h ++ o ++ d))) pseudo
+
+pub segment-checksum-spec : {M : Type 1} → statement M
+segment-checksum-spec =
+    tie.close
+    (tie.spec
+    add-len
+    add-len-2
+    cast-pseudo-header
+    pseudo-header-requires
+    slice-aggregate-sum
+    sum-requires
+    sum-requires-2
+    sum-requires-3
+    sum-requires-4
+    sub-result
+    returns)

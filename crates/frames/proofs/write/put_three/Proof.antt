@@ -1,0 +1,66 @@
+use Prim.Native.Nat.{_+_}
+use mathlib.Core.Path.{ap, _∙_}
+use native.Mathlib.Omega.{arith}
+use borrow.Author.Needs.{needs}
+use lib.ListN.{length}
+use Rattle.frames.specs.Bytes.{put}
+use Rattle.frames.proofs.Lists.{put-put, put-behind}
+use Rattle.frames.proofs.write.put_three.Statement.{statement}
+use Rattle.frames.proofs.write.put_three.Tie as tie
+use Rattle.frames.proofs.write.put_three.Reads as reads
+use Rattle.frames.proofs.write.put_three.Lts as lts
+use Rattle.frames.proofs.write.put.Reads as put-reads
+
+-- src/write.rt:21:5
+put-requires : tie.Need-put-requires
+put-requires c κs = search needs
+
+-- src/write.rt:22:14
+add-put : tie.Need-add-put
+add-put c = search needs
+
+-- src/write.rt:22:5
+put-requires-2 : tie.Need-put-requires-2
+put-requires-2 c κs = search needs
+
+-- src/write.rt:23:14
+add-put-2 : tie.Need-add-put-2
+add-put-2 c = search needs
+
+-- src/write.rt:23:14
+add-put-3 : tie.Need-add-put-3
+add-put-3 c = search needs
+
+-- src/write.rt:23:5
+put-requires-3 : tie.Need-put-requires-3
+put-requires-3 c κs = search needs
+
+-- src/write.rt:17:1
+same-length : tie.Need-same-length
+same-length c = search needs
+
+-- src/write.rt:17:1
+returns : tie.Need-returns
+returns c =
+    let a = c .before .before .before .before .before .before .before .before .before .before .before .before .before .before .before .before .args in
+    let x = a .first .now in
+    let y = a .second .now in
+    let z = a .third .now in
+    let b = a .out .now in
+    c .before .before .put3 .ensures
+    ∙ ap (put (a .at + length x + length y) z)
+    (c .before .before .before .before .before .before .put2 .ensures ∙ ap (put (a .at + length x) y) (c .before .before .before .before .before .before .before .before .before .before .put .ensures) ∙ put-put (a .at) x y b (omega arith))
+    ∙ put-behind (a .at) x y z b (omega arith)
+
+pub put-three-spec : {M : Type 1} → statement M
+put-three-spec =
+    tie.close
+    (tie.spec
+    put-requires
+    add-put
+    put-requires-2
+    add-put-2
+    add-put-3
+    put-requires-3
+    same-length
+    returns)

@@ -1,0 +1,19 @@
+-- The Ethernet header (RFC 894): target MAC, source MAC, type.
+use Prim.Native.Nat.{ℕ}
+use mathlib.Core.List.{List, _++_}
+use lib.ListN.{drop}
+use Rattle.frames.specs.Bytes.{be16, u16At, bytesAt}
+
+abbrev pub ethernet : (target source : List ℕ) (type : ℕ) → List ℕ
+ethernet target source type = target ++ source ++ be16 type
+
+-- the fields of a frame, at their offsets
+abbrev pub sourceMac : List ℕ → List ℕ
+sourceMac frame = bytesAt frame 6 6
+
+abbrev pub typeOf : List ℕ → ℕ
+typeOf frame = u16At frame 12
+
+-- what lies behind the header
+abbrev pub body : List ℕ → List ℕ
+body frame = drop 14 frame

@@ -1,0 +1,9 @@
+pub mod Pick
+pub mod Bytes
+pub mod Rfc1071
+pub mod Ethernet
+pub mod Rfc791
+pub mod Rfc768
+pub mod Rfc9293
+pub mod Network
+pub mod Answer

@@ -1,0 +1,62 @@
+-- TCP: RFC 9293, section 3.1.
+use Prim.Native.Nat.{ℕ, _+_, _*_, _-_, _/_, _%_}
+use mathlib.Core.List.{List, [], _∷_, _++_}
+use lib.ListN.{length}
+use lib.Dec.{eqb}
+use Rattle.frames.specs.Pick.{pick}
+use Rattle.frames.specs.Bytes.{be16, be32, u8At, u16At}
+use Rattle.frames.specs.Rfc1071.{checksum}
+use Rattle.frames.specs.Rfc768.{pseudoHeader}
+use Rattle.frames.specs.Rfc791.{ipFrame}
+use Rattle.frames.specs.declared.tcp.Endpoints.{Endpoints}
+
+-- "Where bit 0x02 of the flags is set, eight option bytes follow": a largest segment of 1,460, a pad, a window shift of 7
+abbrev pub synOptions : List ℕ
+synOptions = 0x02 ∷ 0x04 ∷ 0x05 ∷ 0xb4 ∷ 0x01 ∷ 0x03 ∷ 0x03 ∷ 0x07 ∷ []
+
+unfoldable pub options : (flags : ℕ) → List ℕ
+options flags = pick (eqb (flags / 2 % 2) 1) synOptions []
+
+-- "Data over 65,495, or 65,487 with options: 6"
+unfoldable pub dataLimit : (flags : ℕ) → ℕ
+dataLimit flags = pick (eqb (flags / 2 % 2) 1) 65487 65495
+
+-- the header up to its options, with `sum` in the checksum field
+unfoldable pub segmentHeader : (sum source target seq ack flags : ℕ) → List ℕ
+segmentHeader sum source target seq ack flags =
+    be16 source
+    ++ be16 target
+    ++ be32 seq  -- sequence number
+    ++ be32 ack  -- acknowledgment number
+    ++ ((20 + length (options flags)) / 4 * 16 ∷ flags ∷ [])  -- data offset, in words of 32 bits, in the high four bits; control bits
+    ++ be16 65535  -- window
+    ++ be16 sum  -- checksum
+    ++ be16 0  -- urgent pointer
+
+-- the fields of a segment, at their offsets
+abbrev pub dataOffset : List ℕ → ℕ
+dataOffset segment = u8At segment 12 / 16 * 4
+
+abbrev pub window : List ℕ → ℕ
+window segment = u16At segment 14
+
+-- what the checksum covers: the pseudo-header, then the segment
+unfoldable pub covered : (from to : List ℕ) (segment : List ℕ) → List ℕ
+covered from to segment = pseudoHeader from to 6 (length segment) ++ segment
+
+-- the header with its checksum. "The checksum covers the pseudo-header"; its own field counts as zero
+unfoldable pub summedHeader : (ends : Endpoints) (seq ack flags : ℕ) (body : List ℕ) → List ℕ
+summedHeader ends seq ack flags body =
+    segmentHeader
+    (checksum
+    (covered (ends .«src_ip») (ends .«dst_ip»)
+    (segmentHeader 0 (ends .«src_port») (ends .«dst_port») seq ack flags ++ options flags ++ body)))
+    (ends .«src_port») (ends .«dst_port») seq ack flags
+
+unfoldable pub segment : (ends : Endpoints) (seq ack flags : ℕ) (body : List ℕ) → List ℕ
+segment ends seq ack flags body = summedHeader ends seq ack flags body ++ options flags ++ body
+
+-- a segment in its frame
+unfoldable pub tcpFrame : (id : ℕ) (ends : Endpoints) (seq ack flags : ℕ) (body : List ℕ) → List ℕ
+tcpFrame id ends seq ack flags body =
+    ipFrame (ends .«dst_mac») id 6 (ends .«src_ip») (ends .«dst_ip») (segment ends seq ack flags body)

@@ -1,0 +1,99 @@
+// Field readers for frames of any length: a byte past the end reads as 0. Whoever has to tell a
+// short frame from zeros looks at its length first, as document 01's order of tests does.
+ghost use mathlib.Core.Path.{_≡_};
+ghost use Rattle.frames.specs.Bytes.{u8At, u16At, u32At};
+ghost use Rattle.frames.specs.Ethernet.{sourceMac, typeOf, body};
+ghost use Rattle.frames.specs.Rfc791.{headerLength, protocolOf, sourceOf, targetOf};
+
+const ETH_SRC: usize = 6;
+
+const ETH_TYPE: usize = 12;
+
+const IP_HLEN: usize = 14;
+
+const IP_PROTO: usize = 14 + 9;
+
+const IP_SRC: usize = 14 + 12;
+
+const IP_DST: usize = 14 + 16;
+
+pub fn u8be(buf: &[u8], at: usize) -> u8
+    ensures { λ r. ⌜ r ≡ u8At (now (buf .entry)) at ⌝ }
+{
+    if buf.len() <= at {
+        return 0;
+    }
+    buf[at]
+}
+
+pub fn u16be(buf: &[u8], at: usize) -> u16
+    ensures { λ r. ⌜ r ≡ u16At (now (buf .entry)) at ⌝ }
+{
+    if buf.len() <= at {
+        return 0;
+    }
+    (u8be(buf, at) as u16) * 256 + (u8be(buf, at + 1) as u16)
+}
+
+pub fn u32be(buf: &[u8], at: usize) -> u32
+    ensures { λ r. ⌜ r ≡ u32At (now (buf .entry)) at ⌝ }
+{
+    if buf.len() <= at {
+        return 0;
+    }
+    (u16be(buf, at) as u32) * 65536 + (u16be(buf, at + 2) as u32)
+}
+
+pub fn eth_src(frame: &[u8]) -> [u8; 6]
+    ensures { λ r. ⌜ r ≡ sourceMac (now (frame .entry)) ⌝ }
+{
+    [
+        u8be(frame, ETH_SRC),
+        u8be(frame, ETH_SRC + 1),
+        u8be(frame, ETH_SRC + 2),
+        u8be(frame, ETH_SRC + 3),
+        u8be(frame, ETH_SRC + 4),
+        u8be(frame, ETH_SRC + 5),
+    ]
+}
+
+pub fn eth_type(frame: &[u8]) -> u16
+    ensures { λ r. ⌜ r ≡ typeOf (now (frame .entry)) ⌝ }
+{
+    u16be(frame, ETH_TYPE)
+}
+
+pub fn ip_proto(frame: &[u8]) -> u8
+    ensures { λ r. ⌜ r ≡ protocolOf (body (now (frame .entry))) ⌝ }
+{
+    u8be(frame, IP_PROTO)
+}
+
+pub fn ip_src(frame: &[u8]) -> [u8; 4]
+    ensures { λ r. ⌜ r ≡ sourceOf (body (now (frame .entry))) ⌝ }
+{
+    [
+        u8be(frame, IP_SRC),
+        u8be(frame, IP_SRC + 1),
+        u8be(frame, IP_SRC + 2),
+        u8be(frame, IP_SRC + 3),
+    ]
+}
+
+pub fn ip_dst(frame: &[u8]) -> [u8; 4]
+    ensures { λ r. ⌜ r ≡ targetOf (body (now (frame .entry))) ⌝ }
+{
+    [
+        u8be(frame, IP_DST),
+        u8be(frame, IP_DST + 1),
+        u8be(frame, IP_DST + 2),
+        u8be(frame, IP_DST + 3),
+    ]
+}
+
+// The low four bits of byte 14 count words of four bytes; its high four bits are the version.
+pub fn ip_hlen(frame: &[u8]) -> usize
+    ensures { λ r. ⌜ r ≡ headerLength (body (now (frame .entry))) ⌝ }
+{
+    ((u8be(frame, IP_HLEN) & 0x0f) as usize) << 2
+}

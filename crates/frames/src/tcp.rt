@@ -1,0 +1,168 @@
+// TCP segments in their frames.
+ghost use mathlib.Core.Path.{_≡_};
+ghost use mathlib.Core.List.{_++_};
+ghost use Prim.Native.Nat.{_+_, _%_, _≤_};
+ghost use lib.ListN.{length};
+ghost use Rattle.frames.specs.Answer.{Meets, spending};
+ghost use Rattle.frames.specs.Rfc1071.{checksum as Rfc1071·checksum};
+ghost use Rattle.frames.specs.Rfc768.{pseudoHeader};
+ghost use Rattle.frames.specs.Rfc9293.{covered, dataLimit, segmentHeader, summedHeader, tcpFrame, options as Rfc9293·options};
+use crate::answer::Answer;
+use crate::answer::Guest;
+use crate::answer::Verdict;
+use crate::ipv4::make_ip_frame_in_place;
+use crate::sums::sum;
+use crate::udp::pseudo_header;
+use crate::write::put_three;
+
+// Who speaks to whom; `dst_mac` is the guest's.
+pub struct Endpoints {
+    pub dst_mac: [u8; 6],
+    pub src_ip: [u8; 4],
+    pub src_port: u16,
+    pub dst_ip: [u8; 4],
+    pub dst_port: u16,
+}
+
+const IP_PROTO_TCP: u8 = 6;
+
+// The segment lies behind the Ethernet and the IPv4 header, and its options behind 20 bytes of its own.
+const SEGMENT_AT: usize = 34;
+
+const HEADER: usize = 20;
+
+const SYN: u8 = 0x02;
+
+// A largest segment of 1,460 bytes, a pad, a window shift of 7.
+const SYN_OPTIONS: [u8; 8] = [0x02, 0x04, 0x05, 0xb4, 0x01, 0x03, 0x03, 0x07];
+
+// A frame around a segment with `data`. Where the SYN flag is set, its options stand before the data.
+pub fn make_tcp_frame(
+    guest: Guest,
+    ends: Endpoints,
+    seq: u32,
+    ack: u32,
+    flags: u8,
+    data: &[u8],
+    out: &mut [u8],
+) -> Answer
+    ensures { λ r. ⌜ Meets
+        (spending guest (dataLimit flags) (length (now («data» .entry))) (54 + length (Rfc9293·options flags) + length (now («data» .entry)))
+        (length (now (out .entry))) (tcpFrame (guest .id) ends seq ack flags (now («data» .entry))))
+        (now (out .entry)) (now (out .exit)) r ⌝ }
+{
+    let len = data.len();
+    let option_len = options_length(flags);
+    if data_limit(flags) < len {
+        return Answer {
+            verdict: Verdict::TooLong(len),
+            guest: guest,
+        };
+    }
+    let segment_len = HEADER + option_len + len;
+    if out.len() < SEGMENT_AT + segment_len {
+        return Answer {
+            verdict: Verdict::NoRoom(SEGMENT_AT + segment_len),
+            guest: guest,
+        };
+    }
+    let all_options = SYN_OPTIONS;
+    let options = &all_options[..option_len];
+    let header = summed_header(ends, seq, ack, flags, options, data);
+    put_three(out, SEGMENT_AT, &header, options, data);
+    let dst_mac = ends.dst_mac;
+    let src_ip = ends.src_ip;
+    let dst_ip = ends.dst_ip;
+    make_ip_frame_in_place(
+        guest,
+        dst_mac,
+        src_ip,
+        dst_ip,
+        IP_PROTO_TCP,
+        segment_len,
+        out,
+    )
+}
+
+// The header with the segment's checksum in it.
+fn summed_header(
+    ends: Endpoints,
+    seq: u32,
+    ack: u32,
+    flags: u8,
+    options: &[u8],
+    data: &[u8],
+) -> [u8; 20]
+    requires { ⌜ now options ≡ Rfc9293·options flags ⌝ }
+    requires { ⌜ length (now «data») ≤ dataLimit flags ⌝ }
+    ensures { λ r. ⌜ r ≡ summedHeader ends seq ack flags (now («data» .entry)) ⌝ }
+{
+    let src_ip = ends.src_ip;
+    let dst_ip = ends.dst_ip;
+    let blank = segment_header(0, ends.src_port, ends.dst_port, seq, ack, flags);
+    let sum = segment_checksum(src_ip, dst_ip, &blank, options, data);
+    segment_header(sum, ends.src_port, ends.dst_port, seq, ack, flags)
+}
+
+// The sum goes on from piece to piece, so that nothing is copied behind the pseudo-header.
+fn segment_checksum(
+    src_ip: [u8; 4],
+    dst_ip: [u8; 4],
+    header: &[u8; 20],
+    options: &[u8],
+    data: &[u8],
+) -> u16
+    requires { ⌜ length (now options) % 2 ≡ 0 ⌝ }
+    requires { ⌜ 20 + length (now options) + length (now «data») ≤ 65535 ⌝ }
+    ensures { λ r. ⌜ r ≡ Rfc1071·checksum (covered «src_ip» «dst_ip» (now (header .entry) ++ now (options .entry) ++ now («data» .entry))) ⌝ }
+{
+    let len = HEADER + options.len() + data.len();
+    let pseudo = pseudo_header(src_ip, dst_ip, IP_PROTO_TCP, len as u16);
+    65535 - sum(sum(sum(sum(0, &pseudo), header), options), data)
+}
+
+fn segment_header(sum: u16, src_port: u16, dst_port: u16, seq: u32, ack: u32, flags: u8) -> [u8; 20]
+    ensures { λ r. ⌜ r ≡ segmentHeader sum «src_port» «dst_port» seq ack flags ⌝ }
+{
+    let words = ((HEADER + options_length(flags)) / 4) as u8;
+    [
+        (src_port / 256) as u8,
+        (src_port % 256) as u8,
+        (dst_port / 256) as u8,
+        (dst_port % 256) as u8,
+        (seq / 65536 / 256) as u8,
+        (seq / 65536 % 256) as u8,
+        (seq % 65536 / 256) as u8,
+        (seq % 65536 % 256) as u8,
+        (ack / 65536 / 256) as u8,
+        (ack / 65536 % 256) as u8,
+        (ack % 65536 / 256) as u8,
+        (ack % 65536 % 256) as u8,
+        words << 4,
+        flags,
+        0xff,
+        0xff,
+        (sum / 256) as u8,
+        (sum % 256) as u8,
+        0,
+        0,
+    ]
+}
+
+fn options_length(flags: u8) -> usize
+    ensures { λ r. ⌜ (r ≡ length (Rfc9293·options flags)) × (r ≤ 8) ⌝ }
+{
+    if flags & SYN != 0 {
+        return 8;
+    }
+    0
+}
+
+fn data_limit(flags: u8) -> usize
+    ensures { λ r. ⌜ (r ≡ dataLimit flags) × (r + length (Rfc9293·options flags) ≤ 65495) ⌝ }
+{
+    if flags & SYN != 0 {
+        return 65487;
+    }
+    65495
+}

@@ -1,0 +1,67 @@
+// UDP datagrams.
+ghost use mathlib.Core.Path.{_≡_};
+ghost use Prim.Native.Nat.{_+_, _≤_};
+ghost use lib.ListN.{length};
+ghost use Rattle.frames.specs.Answer.{Wrote, building};
+ghost use Rattle.frames.specs.Rfc768.{datagram, datagramHeader, dataLimit, pseudoHeader};
+use crate::answer::Verdict;
+use crate::write::put;
+
+const HEADER: usize = 8;
+
+const DATA_LIMIT: usize = 65527;
+
+// A datagram around `data`, with no checksum: its field is 0.
+pub fn make_udp_payload(src_port: u16, dst_port: u16, data: &[u8], out: &mut [u8]) -> Verdict
+    ensures { λ r. ⌜ Wrote
+        (building dataLimit (length (now («data» .entry))) (8 + length (now («data» .entry))) (length (now (out .entry)))
+        (datagram «src_port» «dst_port» (now («data» .entry))))
+        (now (out .entry)) (now (out .exit)) r ⌝ }
+{
+    let len = data.len();
+    if DATA_LIMIT < len {
+        return Verdict::TooLong(len);
+    }
+    if out.len() < HEADER + len {
+        return Verdict::NoRoom(HEADER + len);
+    }
+    let header = udp_header(src_port, dst_port, (HEADER + len) as u16);
+    put(out, 0, &header);
+    put(out, HEADER, data);
+    Verdict::Reply(HEADER + len)
+}
+
+// What UDP and TCP sum before the segment: both addresses, the protocol and the segment's length.
+pub fn pseudo_header(src_ip: [u8; 4], dst_ip: [u8; 4], proto: u8, len: u16) -> [u8; 12]
+    ensures { λ r. ⌜ r ≡ pseudoHeader «src_ip» «dst_ip» proto len ⌝ }
+{
+    [
+        src_ip[0],
+        src_ip[1],
+        src_ip[2],
+        src_ip[3],
+        dst_ip[0],
+        dst_ip[1],
+        dst_ip[2],
+        dst_ip[3],
+        0,
+        proto,
+        (len / 256) as u8,
+        (len % 256) as u8,
+    ]
+}
+
+fn udp_header(src_port: u16, dst_port: u16, len: u16) -> [u8; 8]
+    ensures { λ r. ⌜ r ≡ datagramHeader «src_port» «dst_port» len ⌝ }
+{
+    [
+        (src_port / 256) as u8,
+        (src_port % 256) as u8,
+        (dst_port / 256) as u8,
+        (dst_port % 256) as u8,
+        (len / 256) as u8,
+        (len % 256) as u8,
+        0,
+        0,
+    ]
+}
