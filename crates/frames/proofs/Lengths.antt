@@ -1,9 +1,10 @@
--- How long what is built is: 14 bytes of Ethernet, 20 of IPv4, and the payload.
+-- How long a frame is, and where its parts lie: 14 bytes of Ethernet, 20 of IPv4, and the payload.
 use Prim.Native.Nat.{ℕ, _+_, _≤_}
-use mathlib.Core.Path.{_≡_, refl}
-use mathlib.Core.List.{List, _++_}
+use mathlib.Core.Path.{_≡_, ap, sym, _∙_}
+use mathlib.Core.List.{List, _++_, append-assoc}
 use native.Mathlib.Omega.{arith}
-use lib.ListN.{length, length-append}
+use lib.ListN.{length, drop, length-append}
+use lib.Seq.{drop-at, drop-drop}
 use Rattle.frames.specs.Ethernet.{ethernet}
 use Rattle.frames.specs.Rfc791.{header, headerWith, ipFrame}
 use Rattle.frames.specs.Network.{gatewayMac}
@@ -25,3 +26,17 @@ module _ (source target : List ℕ) (four : length source ≡ 4) (four′ : leng
   unfolding ipFrame
   length-ipFrame mac payload id protocol h =
       simp length-append (omega (arith, length-ethernet mac 0x0800 h, length-header (20 + length payload) id protocol))
+
+-- the parts of a frame
+module _ (mac source target payload : List ℕ) (id protocol : ℕ) (six : length mac ≡ 6) (four : length source ≡ 4) (four′ : length target ≡ 4) where
+  pub drop-14 : drop 14 (ipFrame mac id protocol source target payload) ≡ header (20 + length payload) id protocol source target ++ payload
+  unfolding ipFrame
+  drop-14 =
+      rw (append-assoc (ethernet mac gatewayMac 0x0800) (header (20 + length payload) id protocol source target) payload)
+      (drop-at (ethernet mac gatewayMac 0x0800) (header (20 + length payload) id protocol source target ++ payload) 14 (length-ethernet mac 0x0800 six))
+
+  pub drop-34 : drop 34 (ipFrame mac id protocol source target payload) ≡ payload
+  drop-34 =
+      sym (drop-drop 20 14 (ipFrame mac id protocol source target payload))
+      ∙ ap (drop 20) drop-14
+      ∙ drop-at (header (20 + length payload) id protocol source target) payload 20 (length-header source target four four′ _ id protocol)

@@ -4,3 +4,7 @@ pub mod Built
 pub mod Lengths
 pub mod Framed
 pub mod TcpLaws
+pub mod OneAnswer
+pub mod Changes
+pub mod SumsRight
+pub mod ReadBack

@@ -25,34 +25,29 @@ with-syn flags h = eq-eqb (flags / 2 % 2) 1 (by-parity (flags / 2 % 2) (omega ar
 pub without-syn : (flags : ℕ) → bitAnd flags 2 ≡ 0 → eqb (flags / 2 % 2) 1 ≡ false
 without-syn flags h = ne-eqb (flags / 2 % 2) 1 (λ e. omega (arith, syn-mask flags))
 
--- the options are eight bytes or none, so they pair into words
-pub options-even : (flags : ℕ) → length (options flags) % 2 ≡ 0
-unfolding options
-options-even flags = go (eqb (flags / 2 % 2) 1)
+-- the SYN flag decides options and limit together: what holds in both cases holds
+pub syn-cases : (P : List ℕ → ℕ → Type 0) (flags : ℕ) → P synOptions 65487 → P [] 65495 → P (options flags) (dataLimit flags)
+unfolding options dataLimit
+syn-cases P flags with-options with-none = go (eqb (flags / 2 % 2) 1)
   where
-    go : (b : Bool) → length (pick {A = List ℕ} b synOptions []) % 2 ≡ 0
-    go true = refl
-    go false = refl
+    go : (b : Bool) → P (pick b synOptions []) (pick b 65487 65495)
+    go true = with-options
+    go false = with-none
+
+-- the options pair into words of 16 bits and of 32
+pub options-even : (flags : ℕ) → length (options flags) % 2 ≡ 0
+options-even flags = syn-cases (λ o n. length o % 2 ≡ 0) flags refl refl
+
+pub options-words : (flags : ℕ) → length (options flags) % 4 ≡ 0
+options-words flags = syn-cases (λ o n. length o % 4 ≡ 0) flags refl refl
 
 -- the first eight or none of the eight option bytes
 pub options-take : (flags : ℕ) → take (length (options flags)) synOptions ≡ options flags
-unfolding options
-options-take flags = go (eqb (flags / 2 % 2) 1)
-  where
-    go : (b : Bool)
-        → take (length (pick {A = List ℕ} b synOptions [])) synOptions
-        ≡ pick {A = List ℕ} b synOptions []
-    go true = refl
-    go false = refl
+options-take flags = syn-cases (λ o n. take (length o) synOptions ≡ o) flags refl refl
 
 -- data within its limit leaves the segment within 65,515 bytes
 pub limit-holds : (flags : ℕ) → 20 + length (options flags) + dataLimit flags ≡ 65515
-unfolding options dataLimit
-limit-holds flags = go (eqb (flags / 2 % 2) 1)
-  where
-    go : (b : Bool) → 20 + length (pick {A = List ℕ} b synOptions []) + pick b 65487 65495 ≡ 65515
-    go true = refl
-    go false = refl
+limit-holds flags = syn-cases (λ o n. 20 + length o + n ≡ 65515) flags refl refl
 
 pub length-segment : (ends : Endpoints) (seq ack flags : ℕ) (body : List ℕ)
     → length (segment ends seq ack flags body) ≡ 20 + length (options flags) + length body

@@ -1,0 +1,75 @@
+-- The contracts leave one answer: `paper` is one-to-one, so whatever meets a contract twice on the same input has answered the same twice.
+use Prim.Native.Nat.{ℕ, _+_}
+use mathlib.Core.Path.{_≡_, refl, ap, sym, _∙_}
+use mathlib.Core.List.{List}
+use lib.ListN.{length, getD}
+use lib.Dec.{eqb}
+use Rattle.frames.specs.Pick.{pick}
+use Rattle.frames.specs.Answer.{paper, Writing, Outcome, Wrote, Meets, building, spending}
+use Rattle.frames.specs.Bytes.{part}
+use Rattle.frames.specs.Rfc768.{datagram, dataLimit}
+use Rattle.frames.specs.Rfc791.{ipFrame, payloadLimit}
+use Rattle.frames.specs.Rfc9293 as Rfc9293
+use Rattle.frames.specs.declared.answer.Guest.{Guest}
+use Rattle.frames.specs.declared.answer.Answer.{Answer}
+use Rattle.frames.specs.declared.answer.Verdict.{Verdict}
+use Rattle.frames.specs.declared.answer.Verdict.the-variants.{Drop, Reply, Dns, Relay, Tcp, NoRoom, TooLong, CutType}
+use Rattle.frames.specs.declared.tcp.Endpoints.{Endpoints}
+
+-- the verdict with these numbers
+verdictOf : List ℕ → Verdict
+verdictOf s =
+    pick (eqb (getD s 0 0) 0) Drop
+    (pick (eqb (getD s 0 0) 1) (Reply (getD s 1 0))
+    (pick (eqb (getD s 0 0) 2) (Dns (getD s 1 0) (getD s 2 0))
+    (pick (eqb (getD s 0 0) 3) (Relay (getD s 1 0) (getD s 2 0))
+    (pick (eqb (getD s 0 0) 4) (Tcp (getD s 1 0))
+    (pick (eqb (getD s 0 0) 5) (NoRoom (getD s 1 0))
+    (pick (eqb (getD s 0 0) 6) (TooLong (getD s 1 0)) (CutType (getD s 1 0))))))))
+
+verdict-back : (v : Verdict) → verdictOf (paper v) ≡ v
+unfolding paper verdictOf
+verdict-back Drop = refl
+verdict-back (Reply n) = refl
+verdict-back (Dns start len) = refl
+verdict-back (Relay start len) = refl
+verdict-back (Tcp n) = refl
+verdict-back (NoRoom needed) = refl
+verdict-back (TooLong len) = refl
+verdict-back (CutType place) = refl
+
+-- different verdicts have different numbers
+pub paper-one-to-one : (v w : Verdict) → paper v ≡ paper w → v ≡ w
+paper-one-to-one v w e = sym (verdict-back v) ∙ ap verdictOf e ∙ verdict-back w
+
+pub one-writing : (w : Writing) (before after after′ : List ℕ) (v v′ : Verdict) → Wrote w before after v → Wrote w before after′ v′ → (v ≡ v′) × (after ≡ after′)
+one-writing w before after after′ v v′ p q = (paper-one-to-one v v′ (p .numbers ∙ sym (q .numbers)), p .bytes ∙ sym (q .bytes))
+
+pub one-outcome : (o : Outcome) (before after after′ : List ℕ) (a a′ : Answer) → Meets o before after a → Meets o before after′ a′ → (a ≡ a′) × (after ≡ after′)
+one-outcome o before after after′ a a′ p q =
+    let same = one-writing (o .writing) before after after′ (a .verdict) (a′ .verdict) (p .wrote) (q .wrote) in
+    let guest = p .guest ∙ sym (q .guest) in
+    (λ i. record { verdict = same .0 i; guest = guest i }, same .1)
+
+-- The four calls that build, by their own contracts.
+module _ (before after after′ : List ℕ) where
+  module _ (guest : Guest) (a a′ : Answer) where
+    pub make-ip-frame-answers-once : (mac source target payload : List ℕ) (protocol : ℕ)
+        → let o = spending guest payloadLimit (length payload) (34 + length payload) (length before) (ipFrame mac (guest .id) protocol source target payload) in
+        Meets o before after a → Meets o before after′ a′ → (a ≡ a′) × (after ≡ after′)
+    make-ip-frame-answers-once mac source target payload protocol = one-outcome _ before after after′ a a′
+
+    pub make-ip-frame-in-place-answers-once : (mac source target : List ℕ) (protocol len : ℕ)
+        → let o = spending guest payloadLimit len (34 + len) (length before) (ipFrame mac (guest .id) protocol source target (part before 34 len)) in
+        Meets o before after a → Meets o before after′ a′ → (a ≡ a′) × (after ≡ after′)
+    make-ip-frame-in-place-answers-once mac source target protocol len = one-outcome _ before after after′ a a′
+
+    pub make-tcp-frame-answers-once : (ends : Endpoints) (seq ack flags : ℕ) (body : List ℕ)
+        → let o = spending guest (Rfc9293.dataLimit flags) (length body) (54 + length (Rfc9293.options flags) + length body) (length before) (Rfc9293.tcpFrame (guest .id) ends seq ack flags body) in
+        Meets o before after a → Meets o before after′ a′ → (a ≡ a′) × (after ≡ after′)
+    make-tcp-frame-answers-once ends seq ack flags body = one-outcome _ before after after′ a a′
+
+  pub make-udp-payload-answers-once : (v v′ : Verdict) (source target : ℕ) (body : List ℕ)
+      → let w = building dataLimit (length body) (8 + length body) (length before) (datagram source target body) in
+      Wrote w before after v → Wrote w before after′ v′ → (v ≡ v′) × (after ≡ after′)
+  make-udp-payload-answers-once v v′ source target body = one-writing _ before after after′ v v′

@@ -1,0 +1,8 @@
+-- Every row of the table of marked cases holds, by computation.
+use mathlib.Core.Path.{refl}
+use Rattle.frames.specs.Rfc1071.{words, sum, total, fold, checksum}
+use Rattle.laws.specs.Marked.{All, marked}
+
+pub marked-hold : All marked
+unfolding checksum total words sum fold
+marked-hold = (refl, (refl, (refl, (refl, (refl, tt)))))
