@@ -1,0 +1,126 @@
+// What a line expects of a builder, and whether an answer is that.
+use frames::Verdict;
+use frames::fields::u8be;
+use frames::fields::u32be;
+ghost use mathlib.Core.Path.{_≡_};
+ghost use Prim.Native.Nat.{_≤_};
+ghost use lib.ListN.{length};
+
+// The end of a builder's line: room, answer, payload and the bytes before the payload.
+pub struct Expected {
+    pub room: usize,
+    pub number: u8,
+    pub value: usize,
+    pub seed: u8,
+    pub len: usize,
+    pub head_at: usize,
+    pub head_len: usize,
+    pub payload_at: usize,
+}
+
+// The byte that every buffer is full of before a call.
+const UNTOUCHED: u8 = 0xa5;
+
+// Room for the longest payload of a line. The contract gives only the length.
+pub fn longest_payload() -> [u8; 131200]
+    ensures { λ r. ⌜ 131200 ≡ length r ⌝ }
+{
+    [0; 131200]
+}
+
+// The largest buffer of a line.
+pub fn largest_room() -> [u8; 70400]
+    ensures { λ r. ⌜ 70400 ≡ length r ⌝ }
+{
+    [UNTOUCHED; 70400]
+}
+
+pub fn read_expected(line: &[u8], at: usize) -> Expected
+    requires { ⌜ at ≤ 64 ⌝ }
+{
+    let head_len = u8be(line, at + 14) as usize;
+    Expected {
+        room: u32be(line, at) as usize,
+        number: u8be(line, at + 4),
+        value: u32be(line, at + 5) as usize,
+        seed: u8be(line, at + 9),
+        len: u32be(line, at + 10) as usize,
+        head_at: at + 15,
+        head_len: head_len,
+        payload_at: at + 15 + head_len,
+    }
+}
+
+// The `len` bytes of `s` from `at` on, or none where they run past its end.
+pub fn part(s: &[u8], at: usize, len: usize) -> &[u8] {
+    if at <= s.len() {
+        if len <= s.len() - at {
+            &s[at..at + len]
+        } else {
+            &s[..0]
+        }
+    } else {
+        &s[..0]
+    }
+}
+
+// The bytes of `s` from `at` on.
+pub fn rest(s: &[u8], at: usize) -> &[u8] {
+    if at <= s.len() { &s[at..] } else { &s[..0] }
+}
+
+// The verdict has the number and the value, and the buffer holds what belongs to them: the head and
+// the payload where a frame was built, and what it held before everywhere else.
+pub fn is_expected(e: Expected, line: &[u8], payload: &[u8], verdict: Verdict, out: &[u8]) -> bool {
+    let number = e.number;
+    let value = e.value;
+    let head_at = e.head_at;
+    let head_len = e.head_len;
+    match verdict {
+        Verdict::Reply(n) => {
+            number == 1 && n == value && is_frame(part(line, head_at, head_len), payload, n, out)
+        }
+        Verdict::NoRoom(needed) => number == 5 && needed == value && is_untouched(out),
+        Verdict::TooLong(len) => number == 6 && len == value && is_untouched(out),
+        _ => false,
+    }
+}
+
+fn is_frame(head: &[u8], payload: &[u8], n: usize, out: &[u8]) -> bool {
+    if out.len() < n || n < head.len() {
+        return false;
+    }
+    let start = head.len();
+    check::same(part(out, 0, start), head)
+        && check::same(part(out, start, n - start), payload)
+        && is_untouched(&out[n..])
+}
+
+fn is_untouched(s: &[u8]) -> bool {
+    let mut i = 0;
+    while i < s.len() {
+        if s[i] != UNTOUCHED {
+            return false;
+        }
+        i += 1;
+    }
+    true
+}
+
+// Fills `out` with a payload: by its rule, or where the seed is 0 with the line's bytes from `at` on.
+pub fn lay_payload(line: &[u8], at: usize, seed: u8, out: &mut [u8]) {
+    let mut value = (seed as u32) % 251;
+    let mut i = 0;
+    while i < out.len() {
+        out[i] = chosen(seed, u8be(rest(line, at), i), value);
+        value = (value % 251 + 17) % 251;
+        i += 1;
+    }
+}
+
+fn chosen(seed: u8, explicit: u8, by_rule: u32) -> u8 {
+    if seed == 0 {
+        return explicit;
+    }
+    (by_rule % 251) as u8
+}

@@ -1,0 +1,54 @@
+// A whole frame that another made: its checksums are right.
+use crate::answers::part;
+use frames::fields::ip_dst;
+use frames::fields::ip_hlen;
+use frames::fields::ip_proto;
+use frames::fields::ip_src;
+use frames::fields::u16be;
+
+const ICMP: u8 = 1;
+
+const TCP: u8 = 6;
+
+const UDP: u8 = 17;
+
+// The IPv4 header sums right, and so does what it carries: with its pseudo-header for TCP, and for
+// UDP where the checksum is not 0.
+pub fn sums_right(frame: &[u8]) -> bool {
+    let hlen = ip_hlen(frame);
+    let total = u16be(frame, 16) as usize;
+    if frame.len() != 14 + total || total < hlen {
+        return false;
+    }
+    if frames::checksum(part(frame, 14, hlen)) != 0 {
+        return false;
+    }
+    let payload = part(frame, 14 + hlen, total - hlen);
+    match ip_proto(frame) {
+        ICMP => frames::checksum(payload) == 0,
+        TCP => with_pseudo_header(frame, payload) == 0,
+        UDP => u16be(payload, 6) == 0 || with_pseudo_header(frame, payload) == 0,
+        _ => true,
+    }
+}
+
+fn with_pseudo_header(frame: &[u8], payload: &[u8]) -> u16 {
+    let src = ip_src(frame);
+    let dst = ip_dst(frame);
+    let len = payload.len() % 65536;
+    let pseudo = [
+        src[0],
+        src[1],
+        src[2],
+        src[3],
+        dst[0],
+        dst[1],
+        dst[2],
+        dst[3],
+        0,
+        ip_proto(frame),
+        (len / 256) as u8,
+        (len % 256) as u8,
+    ];
+    65535 - frames::sum(frames::sum(0, &pseudo), payload)
+}

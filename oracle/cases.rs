@@ -1,0 +1,316 @@
+//! A case of the list: a builder's call with its payload and room, the answer to it, and its line.
+
+use published::SlirpBackend;
+use std::collections::BTreeMap;
+use std::fmt::Write;
+
+use crate::draws::Draws;
+
+pub const SYN: u8 = 0x02;
+pub const MOST_ROOM: usize = 70_144;
+const MOST_WRITTEN_OUT: usize = 64;
+
+const BUILT: u8 = 1;
+const NO_ROOM: u8 = 5;
+const TOO_LONG: u8 = 6;
+
+#[derive(Clone)]
+pub enum Call {
+    Ip {
+        dst_mac: [u8; 6],
+        src_ip: [u8; 4],
+        dst_ip: [u8; 4],
+        proto: u8,
+    },
+    Udp {
+        src_port: u16,
+        dst_port: u16,
+    },
+    Tcp {
+        dst_mac: [u8; 6],
+        src: ([u8; 4], u16),
+        dst: ([u8; 4], u16),
+        seq: u32,
+        ack: u32,
+        flags: u8,
+    },
+}
+
+/// The payload as a line gives it: byte by byte, or by a rule where that would be long.
+pub enum Payload {
+    WrittenOut(Vec<u8>),
+    ByRule { seed: u8, len: usize },
+}
+
+/// The buffer lent, measured by the bytes that the answer takes.
+#[derive(Clone, Copy)]
+pub enum Room {
+    Full,
+    OneShort,
+    Empty,
+    /// Drawn from what does not fit.
+    Shorter,
+    /// Drawn from one byte more up to the most.
+    Larger,
+    Most,
+}
+
+impl Call {
+    fn kind(&self) -> u8 {
+        match self {
+            Call::Ip { .. } => 3,
+            Call::Udp { .. } => 5,
+            Call::Tcp { .. } => 6,
+        }
+    }
+
+    /// Document 01's longest payload: past it a length no longer fits in its 16 bits.
+    pub fn limit(&self) -> usize {
+        match self {
+            Call::Ip { .. } => 65_515,
+            Call::Udp { .. } => 65_527,
+            Call::Tcp { flags, .. } if flags & SYN == 0 => 65_495,
+            Call::Tcp { .. } => 65_487,
+        }
+    }
+
+    /// How many bytes stand before the payload.
+    fn head_len(&self) -> usize {
+        match self {
+            Call::Ip { .. } => 34,
+            Call::Udp { .. } => 8,
+            Call::Tcp { flags, .. } if flags & SYN == 0 => 54,
+            Call::Tcp { .. } => 62,
+        }
+    }
+
+    fn takes_id(&self) -> bool {
+        !matches!(self, Call::Udp { .. })
+    }
+
+    fn ask_the_rust(&self, payload: &[u8]) -> Vec<u8> {
+        match self {
+            Call::Ip {
+                dst_mac,
+                src_ip,
+                dst_ip,
+                proto,
+            } => SlirpBackend::make_ip_frame(dst_mac, src_ip, dst_ip, *proto, payload),
+            Call::Udp { src_port, dst_port } => {
+                SlirpBackend::make_udp_payload(*src_port, *dst_port, payload)
+            }
+            Call::Tcp {
+                dst_mac,
+                src,
+                dst,
+                seq,
+                ack,
+                flags,
+            } => SlirpBackend::make_tcp_frame(*dst_mac, *src, *dst, *seq, *ack, *flags, payload),
+        }
+    }
+
+    /// The line's fields before the room.
+    fn fields(&self, id: u16) -> String {
+        match self {
+            Call::Ip {
+                dst_mac,
+                src_ip,
+                dst_ip,
+                proto,
+            } => format!(
+                "03 {id:04x} {} {} {} {proto:02x}",
+                hex(dst_mac),
+                hex(src_ip),
+                hex(dst_ip)
+            ),
+            Call::Udp { src_port, dst_port } => format!("05 {src_port:04x} {dst_port:04x}"),
+            Call::Tcp {
+                dst_mac,
+                src,
+                dst,
+                seq,
+                ack,
+                flags,
+            } => format!(
+                "06 {id:04x} {} {} {:04x} {} {:04x} {seq:08x} {ack:08x} {flags:02x}",
+                hex(dst_mac),
+                hex(&src.0),
+                src.1,
+                hex(&dst.0),
+                dst.1
+            ),
+        }
+    }
+}
+
+impl Payload {
+    /// Written out where that is short, else by rule.
+    pub fn drawn(draws: &mut Draws, len: usize) -> Self {
+        if len <= MOST_WRITTEN_OUT {
+            Payload::WrittenOut(draws.bytes(len))
+        } else {
+            Payload::by_rule(draws, len)
+        }
+    }
+
+    pub fn by_rule(draws: &mut Draws, len: usize) -> Self {
+        Payload::ByRule {
+            seed: draws.rule_seed(),
+            len,
+        }
+    }
+
+    fn bytes(&self) -> Vec<u8> {
+        match self {
+            Payload::WrittenOut(bytes) => bytes.clone(),
+            Payload::ByRule { seed, len } => ruled_bytes(*seed, *len),
+        }
+    }
+}
+
+impl Room {
+    fn bytes(self, needed: usize, draws: &mut Draws) -> usize {
+        match self {
+            Room::Full => needed,
+            Room::OneShort => needed - 1,
+            Room::Empty => 0,
+            Room::Shorter => draws.below(needed),
+            Room::Larger => needed + 1 + draws.below(MOST_ROOM - needed),
+            Room::Most => MOST_ROOM,
+        }
+    }
+}
+
+fn ruled_bytes(seed: u8, len: usize) -> Vec<u8> {
+    (0..len)
+        .map(|i| ((seed as usize + 17 * i) % 251) as u8)
+        .collect()
+}
+
+fn hex(bytes: &[u8]) -> String {
+    bytes.iter().map(|byte| format!("{byte:02x}")).collect()
+}
+
+/// The list as it grows. It follows the Rust's id counter, which belongs to the process.
+pub struct List {
+    pub draws: Draws,
+    text: String,
+    next_id: u16,
+    lines_by_kind_and_verdict: BTreeMap<(u8, Option<u8>), usize>,
+}
+
+impl List {
+    pub fn new() -> Self {
+        List {
+            draws: Draws::new(),
+            text: String::new(),
+            next_id: 1,
+            lines_by_kind_and_verdict: BTreeMap::new(),
+        }
+    }
+
+    pub fn comment(&mut self, words: &str) {
+        writeln!(self.text, "# {words}").unwrap();
+    }
+
+    fn line(&mut self, kind: u8, verdict: Option<u8>, line: &str) {
+        self.text.push_str(line.trim_end());
+        self.text.push('\n');
+        *self
+            .lines_by_kind_and_verdict
+            .entry((kind, verdict))
+            .or_default() += 1;
+    }
+
+    /// Ends the list with its counts, so that a cut copy can be told from a whole one.
+    pub fn finish(mut self) -> String {
+        for ((kind, verdict), lines) in std::mem::take(&mut self.lines_by_kind_and_verdict) {
+            let verdict = verdict.map_or(String::new(), |number| format!(" verdict {number:02x}"));
+            self.comment(&format!("kind {kind:02x}{verdict}: {lines} lines"));
+        }
+        self.text
+    }
+
+    /// Has the Rust build it, and checks all that a line leaves out: which id it took, and that the
+    /// payload follows the head and ends the frame.
+    pub fn build(&mut self, call: &Call, payload: &[u8]) -> Vec<u8> {
+        let built = call.ask_the_rust(payload);
+        assert_eq!(built.len(), call.head_len() + payload.len());
+        assert!(built[call.head_len()..] == *payload);
+        if call.takes_id() {
+            assert_eq!(built[18..20], self.next_id.to_be_bytes());
+            self.next_id = self.next_id.wrapping_add(1);
+        }
+        built
+    }
+
+    /// Builds frames that are not listed until `id` is next.
+    pub fn burn_to(&mut self, id: u16) {
+        let unlisted = Call::Ip {
+            dst_mac: [0; 6],
+            src_ip: [0; 4],
+            dst_ip: [0; 4],
+            proto: 0,
+        };
+        while self.next_id != id {
+            self.build(&unlisted, &[]);
+        }
+    }
+
+    /// Moves the next id on by a little, so that the listed ids spread over their range.
+    pub fn burn_some(&mut self) {
+        let step = self.draws.below(500) as u16;
+        self.burn_to(self.next_id.wrapping_add(step));
+    }
+
+    /// Lists one call once for each room. The Rust is asked once: the lines hold the same record.
+    /// Gives back what it built, if it was asked.
+    pub fn case(&mut self, call: &Call, payload: &Payload, rooms: &[Room]) -> Option<Vec<u8>> {
+        let bytes = payload.bytes();
+        let id = self.next_id;
+        let built = (bytes.len() <= call.limit()).then(|| self.build(call, &bytes));
+        let needed = match &built {
+            Some(built) => built.len(),
+            None => call.head_len() + bytes.len(),
+        };
+
+        for room in rooms {
+            let room = room.bytes(needed, &mut self.draws);
+            let (verdict, value, head) = match &built {
+                None => (TOO_LONG, bytes.len(), &[][..]),
+                Some(built) if room < built.len() => (NO_ROOM, built.len(), &[][..]),
+                Some(built) => (BUILT, built.len(), &built[..call.head_len()]),
+            };
+            let (seed, written_out) = match payload {
+                Payload::WrittenOut(bytes) => (0, &bytes[..]),
+                Payload::ByRule { seed, .. } => (*seed, &[][..]),
+            };
+            let mut line = format!(
+                "{} {room:08x} {verdict:02x} {value:08x} {seed:02x} {:08x} {:02x}",
+                call.fields(id),
+                bytes.len(),
+                head.len(),
+            );
+            for part in [head, written_out] {
+                if !part.is_empty() {
+                    line = format!("{line} {}", hex(part));
+                }
+            }
+            self.line(call.kind(), Some(verdict), &line);
+        }
+        built
+    }
+
+    pub fn checksum(&mut self, bytes: &[u8]) -> u16 {
+        let sum = SlirpBackend::checksum(bytes);
+        self.line(1, None, &format!("01 {sum:04x} {}", hex(bytes)));
+        sum
+    }
+
+    pub fn checksum_by_rule(&mut self, len: usize) {
+        let seed = self.draws.rule_seed();
+        let sum = SlirpBackend::checksum(&ruled_bytes(seed, len));
+        self.line(7, None, &format!("07 {sum:04x} {seed:02x} {len:08x}"));
+    }
+}
