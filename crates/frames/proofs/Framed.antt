@@ -11,7 +11,7 @@ use Rattle.frames.specs.Answer.{Meets, spending, building}
 use Rattle.frames.specs.Bytes.{part, put}
 use Rattle.frames.specs.Ethernet.{ethernet}
 use Rattle.frames.specs.Network.{gatewayMac}
-use Rattle.frames.specs.Rfc791.{header, ipFrame, payloadLimit}
+use Rattle.frames.specs.Rfc791.{header, ipFrame}
 use Rattle.frames.proofs.Lists.{put-headers, length-put, part-put, drop-put}
 use Rattle.frames.proofs.Lengths.{length-ethernet, length-header, length-ipFrame}
 
@@ -38,8 +38,8 @@ module _ (mac source target : List ℕ) (six : length mac ≡ 6) (four : length 
   -- a payload is put at 34 and framed in place: whatever limit led there, the answer is that of a frame built around it
   pub framed-there : (guest : Guest) (limit len need id protocol : ℕ) (p b : List ℕ) (n : ℕ) (b′ after : List ℕ) (answer : Answer)
       → n ≡ length p → b′ ≡ put 34 p b → need ≡ 34 + n
-      → len ≤ limit → n ≤ payloadLimit → need ≤ length b
-      → Meets (spending guest payloadLimit n (34 + n) (length b′) (ipFrame mac id protocol source target (part b′ 34 n))) b′ after answer
+      → len ≤ limit → n ≤ 65515 → need ≤ length b
+      → Meets (spending guest 65515 n (34 + n) (length b′) (ipFrame mac id protocol source target (part b′ 34 n))) b′ after answer
       → Meets (spending guest limit len need (length b) (ipFrame mac id protocol source target p)) b after answer
   unfolding spending building
   framed-there guest limit len need id protocol p b n b′ after answer en eb e h l r m =
@@ -50,7 +50,7 @@ module _ (mac source target : List ℕ) (six : length mac ≡ 6) (four : length 
         eb,
         en,
         length-put 34 p b fits,
-        le-ltb payloadLimit (length p) (omega arith),
+        le-ltb 65515 (length p) (omega arith),
         le-ltb (length b) (34 + length p) fits,
         part-put 34 p b fits,
       )

@@ -6,6 +6,7 @@ use native.Mathlib.Omega.{arith}
 use lib.ListN.{length, drop, length-append}
 use lib.Seq.{drop-at, drop-drop}
 use Rattle.frames.specs.Ethernet.{ethernet}
+use Rattle.frames.specs.Rfc768.{datagram}
 use Rattle.frames.specs.Rfc791.{header, headerWith, ipFrame}
 use Rattle.frames.specs.Network.{gatewayMac}
 
@@ -40,3 +41,8 @@ module _ (mac source target payload : List ℕ) (id protocol : ℕ) (six : lengt
       sym (drop-drop 20 14 (ipFrame mac id protocol source target payload))
       ∙ ap (drop 20) drop-14
       ∙ drop-at (header (20 + length payload) id protocol source target) payload 20 (length-header source target four four′ _ id protocol)
+
+-- a datagram is 8 bytes longer than its data
+pub length-datagram : (source target : ℕ) (d : List ℕ) → length (datagram source target d) ≡ 8 + length d
+unfolding datagram
+length-datagram source target d = omega arith

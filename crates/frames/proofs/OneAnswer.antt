@@ -1,15 +1,12 @@
 -- The contracts leave one answer: `paper` is one-to-one, so whatever meets a contract twice on the same input has answered the same twice.
-use Prim.Native.Nat.{ℕ, _+_}
+use Prim.Native.Nat.{ℕ}
 use mathlib.Core.Path.{_≡_, refl, ap, sym, _∙_}
 use mathlib.Core.List.{List}
 use lib.ListN.{length, getD}
 use lib.Dec.{eqb}
 use Rattle.frames.specs.Pick.{pick}
-use Rattle.frames.specs.Answer.{paper, Writing, Outcome, Wrote, Meets, building, spending}
-use Rattle.frames.specs.Bytes.{part}
-use Rattle.frames.specs.Rfc768.{datagram, dataLimit}
-use Rattle.frames.specs.Rfc791.{ipFrame, payloadLimit}
-use Rattle.frames.specs.Rfc9293 as Rfc9293
+use Rattle.frames.specs.Answer.{paper, Writing, Outcome, Wrote, Meets}
+use Rattle.frames.specs.Builders.{makeIpFrame, makeIpFrameInPlace, makeUdpPayload, makeTcpFrame}
 use Rattle.frames.specs.declared.answer.Guest.{Guest}
 use Rattle.frames.specs.declared.answer.Answer.{Answer}
 use Rattle.frames.specs.declared.answer.Verdict.{Verdict}
@@ -54,22 +51,22 @@ one-outcome o before after after′ a a′ p q =
 -- The four calls that build, by their own contracts.
 module _ (before after after′ : List ℕ) where
   module _ (guest : Guest) (a a′ : Answer) where
-    pub make-ip-frame-answers-once : (mac source target payload : List ℕ) (protocol : ℕ)
-        → let o = spending guest payloadLimit (length payload) (34 + length payload) (length before) (ipFrame mac (guest .id) protocol source target payload) in
-        Meets o before after a → Meets o before after′ a′ → (a ≡ a′) × (after ≡ after′)
-    make-ip-frame-answers-once mac source target payload protocol = one-outcome _ before after after′ a a′
+    pub make-ip-frame-answers-once : (mac source target : List ℕ) (protocol : ℕ) (payload : List ℕ)
+        → Meets (makeIpFrame guest mac source target protocol payload (length before)) before after a
+        → Meets (makeIpFrame guest mac source target protocol payload (length before)) before after′ a′ → (a ≡ a′) × (after ≡ after′)
+    make-ip-frame-answers-once mac source target protocol payload = one-outcome _ before after after′ a a′
 
     pub make-ip-frame-in-place-answers-once : (mac source target : List ℕ) (protocol len : ℕ)
-        → let o = spending guest payloadLimit len (34 + len) (length before) (ipFrame mac (guest .id) protocol source target (part before 34 len)) in
-        Meets o before after a → Meets o before after′ a′ → (a ≡ a′) × (after ≡ after′)
+        → Meets (makeIpFrameInPlace guest mac source target protocol len before) before after a
+        → Meets (makeIpFrameInPlace guest mac source target protocol len before) before after′ a′ → (a ≡ a′) × (after ≡ after′)
     make-ip-frame-in-place-answers-once mac source target protocol len = one-outcome _ before after after′ a a′
 
     pub make-tcp-frame-answers-once : (ends : Endpoints) (seq ack flags : ℕ) (body : List ℕ)
-        → let o = spending guest (Rfc9293.dataLimit flags) (length body) (54 + length (Rfc9293.options flags) + length body) (length before) (Rfc9293.tcpFrame (guest .id) ends seq ack flags body) in
-        Meets o before after a → Meets o before after′ a′ → (a ≡ a′) × (after ≡ after′)
+        → Meets (makeTcpFrame guest ends seq ack flags body (length before)) before after a
+        → Meets (makeTcpFrame guest ends seq ack flags body (length before)) before after′ a′ → (a ≡ a′) × (after ≡ after′)
     make-tcp-frame-answers-once ends seq ack flags body = one-outcome _ before after after′ a a′
 
   pub make-udp-payload-answers-once : (v v′ : Verdict) (source target : ℕ) (body : List ℕ)
-      → let w = building dataLimit (length body) (8 + length body) (length before) (datagram source target body) in
-      Wrote w before after v → Wrote w before after′ v′ → (v ≡ v′) × (after ≡ after′)
+      → Wrote (makeUdpPayload source target body (length before)) before after v
+      → Wrote (makeUdpPayload source target body (length before)) before after′ v′ → (v ≡ v′) × (after ≡ after′)
   make-udp-payload-answers-once v v′ source target body = one-writing _ before after after′ v v′

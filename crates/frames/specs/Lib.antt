@@ -7,3 +7,4 @@ pub mod Rfc768
 pub mod Rfc9293
 pub mod Network
 pub mod Answer
+pub mod Builders

@@ -4,10 +4,6 @@ use mathlib.Core.List.{List, [], _∷_, _++_}
 use lib.ListN.{length}
 use Rattle.frames.specs.Bytes.{be16}
 
--- document 01: "Data over 65,527: 6"
-abbrev pub dataLimit : ℕ
-dataLimit = 65527
-
 -- "Fields": ports, the length of header and data, and the checksum 0, which says that there is none
 abbrev pub datagramHeader : (source target len : ℕ) → List ℕ
 datagramHeader source target len = be16 source ++ be16 target ++ be16 len ++ be16 0

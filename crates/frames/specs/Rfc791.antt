@@ -7,10 +7,6 @@ use Rattle.frames.specs.Rfc1071.{checksum}
 use Rattle.frames.specs.Ethernet.{ethernet}
 use Rattle.frames.specs.Network.{gatewayMac}
 
--- document 01: "Payload over 65,515: 6"
-abbrev pub payloadLimit : ℕ
-payloadLimit = 65515
-
 -- the header without options, with `sum` in the checksum field
 unfoldable pub headerWith : (sum total id protocol : ℕ) (source target : List ℕ) → List ℕ
 headerWith sum total id protocol source target =

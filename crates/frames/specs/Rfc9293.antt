@@ -3,6 +3,7 @@ use Prim.Native.Nat.{ℕ, _+_, _*_, _-_, _/_, _%_}
 use mathlib.Core.List.{List, [], _∷_, _++_}
 use lib.ListN.{length}
 use lib.Dec.{eqb}
+use mathlib.Core.Bool.{Bool}
 use Rattle.frames.specs.Pick.{pick}
 use Rattle.frames.specs.Bytes.{be16, be32, u8At, u16At}
 use Rattle.frames.specs.Rfc1071.{checksum}
@@ -10,16 +11,16 @@ use Rattle.frames.specs.Rfc768.{pseudoHeader}
 use Rattle.frames.specs.Rfc791.{ipFrame}
 use Rattle.frames.specs.declared.tcp.Endpoints.{Endpoints}
 
+-- bit 0x02 of the flags: the control bit SYN
+abbrev pub synSet : (flags : ℕ) → Bool
+synSet flags = eqb (flags / 2 % 2) 1
+
 -- "Where bit 0x02 of the flags is set, eight option bytes follow": a largest segment of 1,460, a pad, a window shift of 7
 abbrev pub synOptions : List ℕ
 synOptions = 0x02 ∷ 0x04 ∷ 0x05 ∷ 0xb4 ∷ 0x01 ∷ 0x03 ∷ 0x03 ∷ 0x07 ∷ []
 
 unfoldable pub options : (flags : ℕ) → List ℕ
-options flags = pick (eqb (flags / 2 % 2) 1) synOptions []
-
--- "Data over 65,495, or 65,487 with options: 6"
-unfoldable pub dataLimit : (flags : ℕ) → ℕ
-dataLimit flags = pick (eqb (flags / 2 % 2) 1) 65487 65495
+options flags = pick (synSet flags) synOptions []
 
 -- the header up to its options, with `sum` in the checksum field
 unfoldable pub segmentHeader : (sum source target seq ack flags : ℕ) → List ℕ

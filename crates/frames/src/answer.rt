@@ -38,15 +38,29 @@ impl Guest {
         }
     }
 
-    // The record once its id is in a frame: the next id, which goes from 65,535 to 0.
-    pub fn with_next_id(self) -> Guest
-        ensures { λ r. ⌜ r ≡ spent self ⌝ }
+    // A frame of `n` bytes is built. This is the one place that spends an id; it goes from 65,535
+    // to 0.
+    pub(crate) fn replied(self, n: usize) -> Answer
+        ensures { λ r. ⌜ r ≡ record { verdict = Verdict.Reply n; guest = spent self } ⌝ }
     {
         let mac = self.mac;
-        Guest {
-            mac: mac,
-            id: std::num::wrapping_add_u16(self.id, 1),
-            xid: self.xid,
+        Answer {
+            verdict: Verdict::Reply(n),
+            guest: Guest {
+                mac: mac,
+                id: std::num::wrapping_add_u16(self.id, 1),
+                xid: self.xid,
+            },
+        }
+    }
+
+    // Nothing is built, and the record stays as it was.
+    pub(crate) fn refused(self, verdict: Verdict) -> Answer
+        ensures { λ r. ⌜ r ≡ record { verdict = verdict; guest = self } ⌝ }
+    {
+        Answer {
+            verdict: verdict,
+            guest: self,
         }
     }
 }

@@ -1,13 +1,12 @@
 // IPv4 packets in Ethernet frames.
 ghost use mathlib.Core.Path.{_≡_};
-ghost use mathlib.Core.List.{_++_};
-ghost use Prim.Native.Nat.{_+_, _≤_};
-ghost use lib.ListN.{length, drop};
-ghost use Rattle.frames.specs.Answer.{Meets, spending};
-ghost use Rattle.frames.specs.Bytes.{part};
+ghost use Prim.Native.Nat.{_≤_};
+ghost use lib.ListN.{length};
+ghost use Rattle.frames.specs.Answer.{Meets};
+ghost use Rattle.frames.specs.Builders.{makeIpFrame, makeIpFrameInPlace};
 ghost use Rattle.frames.specs.Ethernet.{ethernet};
 ghost use Rattle.frames.specs.Network.{gatewayMac};
-ghost use Rattle.frames.specs.Rfc791.{headerWith, ipFrame, payloadLimit, header as Rfc791·header};
+ghost use Rattle.frames.specs.Rfc791.{headerWith, header as Rfc791·header};
 use crate::answer::Answer;
 use crate::answer::Guest;
 use crate::answer::Verdict;
@@ -31,22 +30,15 @@ pub fn make_ip_frame(
     out: &mut [u8],
 ) -> Answer
     ensures { λ r. ⌜ Meets
-        (spending guest payloadLimit (length (now (payload .entry))) (34 + length (now (payload .entry))) (length (now (out .entry)))
-        (ipFrame «dst_mac» (guest .id) proto «src_ip» «dst_ip» (now (payload .entry))))
+        (makeIpFrame guest «dst_mac» «src_ip» «dst_ip» proto (now (payload .entry)) (length (now (out .entry))))
         (now (out .entry)) (now (out .exit)) r ⌝ }
 {
     let len = payload.len();
     if PAYLOAD_LIMIT < len {
-        return Answer {
-            verdict: Verdict::TooLong(len),
-            guest: guest,
-        };
+        return guest.refused(Verdict::TooLong(len));
     }
     if out.len() < PAYLOAD_AT + len {
-        return Answer {
-            verdict: Verdict::NoRoom(PAYLOAD_AT + len),
-            guest: guest,
-        };
+        return guest.refused(Verdict::NoRoom(PAYLOAD_AT + len));
     }
     put(out, PAYLOAD_AT, payload);
     make_ip_frame_in_place(guest, dst_mac, src_ip, dst_ip, proto, len, out)
@@ -63,30 +55,20 @@ pub fn make_ip_frame_in_place(
     out: &mut [u8],
 ) -> Answer
     ensures { λ r. ⌜ Meets
-        (spending guest payloadLimit len (34 + len) (length (now (out .entry)))
-        (ipFrame «dst_mac» (guest .id) proto «src_ip» «dst_ip» (part (now (out .entry)) 34 len)))
+        (makeIpFrameInPlace guest «dst_mac» «src_ip» «dst_ip» proto len (now (out .entry)))
         (now (out .entry)) (now (out .exit)) r ⌝ }
 {
     if PAYLOAD_LIMIT < len {
-        return Answer {
-            verdict: Verdict::TooLong(len),
-            guest: guest,
-        };
+        return guest.refused(Verdict::TooLong(len));
     }
     if out.len() < PAYLOAD_AT + len {
-        return Answer {
-            verdict: Verdict::NoRoom(PAYLOAD_AT + len),
-            guest: guest,
-        };
+        return guest.refused(Verdict::NoRoom(PAYLOAD_AT + len));
     }
     let ethernet = ethernet_header(dst_mac);
     let ip = header(20 + len, guest.id, proto, src_ip, dst_ip);
     put(out, 0, &ethernet);
     put(out, 14, &ip);
-    Answer {
-        verdict: Verdict::Reply(PAYLOAD_AT + len),
-        guest: guest.with_next_id(),
-    }
+    guest.replied(PAYLOAD_AT + len)
 }
 
 fn ethernet_header(mac: [u8; 6]) -> [u8; 14]

@@ -38,11 +38,11 @@ fn words_total(piece: &[u8]) -> u32
     let mut sum: u32 = 0;
     let mut i = 0;
     while i + 1 < piece.len() {
-        sum += high_half(piece[i]) + low_half(piece[i + 1]);
+        sum += word(piece[i], piece[i + 1]);
         i += 2;
     }
     if i < piece.len() {
-        return sum + high_half(piece[i]);
+        return sum + word(piece[i], 0);
     }
     sum
 }
@@ -56,16 +56,10 @@ fn folded(total: u32) -> u16
     twice as u16
 }
 
-fn high_half(b: u8) -> u32
-    ensures { λ r. ⌜ (r ≡ b * 256) × (r < 65536) ⌝ }
+fn word(high: u8, low: u8) -> u32
+    ensures { λ r. ⌜ (r ≡ high * 256 + low) × (r < 65536) ⌝ }
 {
-    (b as u32) * 256
-}
-
-fn low_half(b: u8) -> u32
-    ensures { λ r. ⌜ (r ≡ b) × (r < 256) ⌝ }
-{
-    b as u32
+    (high as u32) * 256 + (low as u32)
 }
 
 fn widened(n: u16) -> u32

@@ -3,10 +3,11 @@ ghost use mathlib.Core.Path.{_≡_};
 ghost use mathlib.Core.List.{_++_};
 ghost use Prim.Native.Nat.{_+_, _%_, _≤_};
 ghost use lib.ListN.{length};
-ghost use Rattle.frames.specs.Answer.{Meets, spending};
+ghost use Rattle.frames.specs.Answer.{Meets};
+ghost use Rattle.frames.specs.Builders.{dataLimit, makeTcpFrame};
 ghost use Rattle.frames.specs.Rfc1071.{checksum as Rfc1071·checksum};
 ghost use Rattle.frames.specs.Rfc768.{pseudoHeader};
-ghost use Rattle.frames.specs.Rfc9293.{covered, dataLimit, segmentHeader, summedHeader, tcpFrame, options as Rfc9293·options};
+ghost use Rattle.frames.specs.Rfc9293.{covered, segmentHeader, summedHeader, options as Rfc9293·options};
 use crate::answer::Answer;
 use crate::answer::Guest;
 use crate::answer::Verdict;
@@ -33,6 +34,8 @@ const HEADER: usize = 20;
 
 const SYN: u8 = 0x02;
 
+const WINDOW: u16 = 65535;
+
 // A largest segment of 1,460 bytes, a pad, a window shift of 7.
 const SYN_OPTIONS: [u8; 8] = [0x02, 0x04, 0x05, 0xb4, 0x01, 0x03, 0x03, 0x07];
 
@@ -47,24 +50,17 @@ pub fn make_tcp_frame(
     out: &mut [u8],
 ) -> Answer
     ensures { λ r. ⌜ Meets
-        (spending guest (dataLimit flags) (length (now («data» .entry))) (54 + length (Rfc9293·options flags) + length (now («data» .entry)))
-        (length (now (out .entry))) (tcpFrame (guest .id) ends seq ack flags (now («data» .entry))))
+        (makeTcpFrame guest ends seq ack flags (now («data» .entry)) (length (now (out .entry))))
         (now (out .entry)) (now (out .exit)) r ⌝ }
 {
     let len = data.len();
     let option_len = options_length(flags);
     if data_limit(flags) < len {
-        return Answer {
-            verdict: Verdict::TooLong(len),
-            guest: guest,
-        };
+        return guest.refused(Verdict::TooLong(len));
     }
     let segment_len = HEADER + option_len + len;
     if out.len() < SEGMENT_AT + segment_len {
-        return Answer {
-            verdict: Verdict::NoRoom(SEGMENT_AT + segment_len),
-            guest: guest,
-        };
+        return guest.refused(Verdict::NoRoom(SEGMENT_AT + segment_len));
     }
     let all_options = SYN_OPTIONS;
     let options = &all_options[..option_len];
@@ -140,8 +136,8 @@ fn segment_header(sum: u16, src_port: u16, dst_port: u16, seq: u32, ack: u32, fl
         (ack % 65536 % 256) as u8,
         words << 4,
         flags,
-        0xff,
-        0xff,
+        (WINDOW / 256) as u8,
+        (WINDOW % 256) as u8,
         (sum / 256) as u8,
         (sum % 256) as u8,
         0,

@@ -1,9 +1,9 @@
 // UDP datagrams.
 ghost use mathlib.Core.Path.{_≡_};
-ghost use Prim.Native.Nat.{_+_, _≤_};
 ghost use lib.ListN.{length};
-ghost use Rattle.frames.specs.Answer.{Wrote, building};
-ghost use Rattle.frames.specs.Rfc768.{datagram, datagramHeader, dataLimit, pseudoHeader};
+ghost use Rattle.frames.specs.Answer.{Wrote};
+ghost use Rattle.frames.specs.Builders.{makeUdpPayload};
+ghost use Rattle.frames.specs.Rfc768.{datagramHeader, pseudoHeader};
 use crate::answer::Verdict;
 use crate::write::put;
 
@@ -14,8 +14,7 @@ const DATA_LIMIT: usize = 65527;
 // A datagram around `data`, with no checksum: its field is 0.
 pub fn make_udp_payload(src_port: u16, dst_port: u16, data: &[u8], out: &mut [u8]) -> Verdict
     ensures { λ r. ⌜ Wrote
-        (building dataLimit (length (now («data» .entry))) (8 + length (now («data» .entry))) (length (now (out .entry)))
-        (datagram «src_port» «dst_port» (now («data» .entry))))
+        (makeUdpPayload «src_port» «dst_port» (now («data» .entry)) (length (now (out .entry))))
         (now (out .entry)) (now (out .exit)) r ⌝ }
 {
     let len = data.len();

@@ -1,3 +1,4 @@
+-- `ipv4::make_ip_frame` meets its contract: the payload is put at 34 and framed in place.
 use mathlib.Core.Path.{refl}
 use native.Mathlib.Omega.{arith}
 use borrow.Author.Needs.{needs}
@@ -5,32 +6,36 @@ use Rattle.frames.proofs.Framed.{framed-there}
 use Rattle.frames.proofs.Built.{refused-too-long, refused-no-room}
 use Rattle.frames.proofs.ipv4.make_ip_frame.Statement.{statement}
 use Rattle.frames.proofs.ipv4.make_ip_frame.Tie as tie
-use Rattle.frames.proofs.ipv4.make_ip_frame.Reads as reads
-use Rattle.frames.proofs.ipv4.make_ip_frame.Lts as lts
-use Rattle.frames.proofs.ipv4.make_ip_frame_in_place.Reads as make-ip-frame-in-place-reads
-use Rattle.frames.proofs.write.put.Reads as put-reads
+
+-- src/ipv4.rt:40:9
+refused-requires : tie.Need-refused-requires
+refused-requires c κs = search needs
 
 -- src/ipv4.rt:40:9
 returns : tie.Need-returns
-returns c = refused-too-long _ _ _ _ _ _ _ (c .if1 .taken)
+returns c = rw (c .refused .ensures) (refused-too-long _ _ _ _ _ _ _ (c .before .if1 .taken))
 
--- src/ipv4.rt:45:20
+-- src/ipv4.rt:42:20
 add-if2 : tie.Need-add-if2
 add-if2 c = search needs
 
--- src/ipv4.rt:47:38
+-- src/ipv4.rt:43:46
 add-t13 : tie.Need-add-t13
 add-t13 c = search needs
 
--- src/ipv4.rt:46:9
-returns-2 : tie.Need-returns-2
-returns-2 c = refused-no-room _ _ _ _ _ _ _ (c .before .if1 .left) (c .if2 .taken)
+-- src/ipv4.rt:43:9
+refused-requires-2 : tie.Need-refused-requires-2
+refused-requires-2 c κs = search needs
 
--- src/ipv4.rt:51:5
+-- src/ipv4.rt:43:9
+returns-2 : tie.Need-returns-2
+returns-2 c = rw (c .refused2 .ensures) (refused-no-room _ _ _ _ _ _ _ (c .before .before .if1 .left) (c .before .if2 .taken))
+
+-- src/ipv4.rt:45:5
 put-requires : tie.Need-put-requires
 put-requires c κs = search needs
 
--- src/ipv4.rt:52:5
+-- src/ipv4.rt:46:5
 make-ip-frame-in-place-requires : tie.Need-make-ip-frame-in-place-requires
 make-ip-frame-in-place-requires c κs = search needs
 
@@ -49,9 +54,11 @@ pub make-ip-frame-spec : {M : Type 1} → statement M
 make-ip-frame-spec =
     tie.close
     (tie.spec
+    refused-requires
     returns
     add-if2
     add-t13
+    refused-requires-2
     returns-2
     put-requires
     make-ip-frame-in-place-requires

@@ -1,3 +1,4 @@
+-- `ipv4::make_ip_frame_in_place` meets its contract: the two headers put in front of what lies at 34 make its frame.
 use Prim.Native.Nat.{ℕ}
 use mathlib.Core.Path.{ap, ap₂, _∙_}
 use mathlib.Core.List.{List}
@@ -8,86 +9,91 @@ use Rattle.frames.proofs.Framed.{framed}
 use Rattle.frames.proofs.Built.{refused-too-long, refused-no-room, built}
 use Rattle.frames.proofs.ipv4.make_ip_frame_in_place.Statement.{statement}
 use Rattle.frames.proofs.ipv4.make_ip_frame_in_place.Tie as tie
-use Rattle.frames.proofs.ipv4.make_ip_frame_in_place.Reads as reads
-use Rattle.frames.proofs.ipv4.make_ip_frame_in_place.Lts as lts
-use Rattle.frames.proofs.answer.Guest.with_next_id.Reads as with-next-id-reads
-use Rattle.frames.proofs.ipv4.ethernet_header.Reads as ethernet-header-reads
-use Rattle.frames.proofs.ipv4.header.Reads as header-reads
-use Rattle.frames.proofs.write.put.Reads as put-reads
 
--- src/ipv4.rt:71:9
+-- src/ipv4.rt:65:9
+refused-requires : tie.Need-refused-requires
+refused-requires c κs = search needs
+
+-- src/ipv4.rt:65:9
 returns : tie.Need-returns
-returns c = refused-too-long _ _ _ _ _ _ _ (c .if1 .taken)
+returns c = rw (c .refused .ensures) (refused-too-long _ _ _ _ _ _ _ (c .before .if1 .taken))
 
--- src/ipv4.rt:76:20
+-- src/ipv4.rt:67:20
 add-if2 : tie.Need-add-if2
 add-if2 c = search needs
 
--- src/ipv4.rt:78:38
+-- src/ipv4.rt:68:46
 add-t14 : tie.Need-add-t14
 add-t14 c = search needs
 
--- src/ipv4.rt:77:9
-returns-2 : tie.Need-returns-2
-returns-2 c = refused-no-room _ _ _ _ _ _ _ (c .before .if1 .left) (c .if2 .taken)
+-- src/ipv4.rt:68:9
+refused-requires-2 : tie.Need-refused-requires-2
+refused-requires-2 c κs = search needs
 
--- src/ipv4.rt:82:20
+-- src/ipv4.rt:68:9
+returns-2 : tie.Need-returns-2
+returns-2 c = rw (c .refused2 .ensures) (refused-no-room _ _ _ _ _ _ _ (c .before .before .if1 .left) (c .before .if2 .taken))
+
+-- src/ipv4.rt:70:20
 ethernet-header-requires : tie.Need-ethernet-header-requires
 ethernet-header-requires c κs = search needs
 
--- src/ipv4.rt:83:21
+-- src/ipv4.rt:71:21
 add-header : tie.Need-add-header
 add-header c = search needs
 
--- src/ipv4.rt:83:14
+-- src/ipv4.rt:71:14
 header-requires : tie.Need-header-requires
 header-requires c κs = search needs
 
--- src/ipv4.rt:84:17
+-- src/ipv4.rt:72:17
 slice-aggregate-put : tie.Need-slice-aggregate-put
 slice-aggregate-put c = search needs
 
--- src/ipv4.rt:84:5
+-- src/ipv4.rt:72:5
 put-requires : tie.Need-put-requires
 put-requires c κs = search needs
 
--- src/ipv4.rt:85:18
+-- src/ipv4.rt:73:18
 slice-aggregate-put-2 : tie.Need-slice-aggregate-put-2
 slice-aggregate-put-2 c = search needs
 
--- src/ipv4.rt:85:5
+-- src/ipv4.rt:73:5
 put-requires-2 : tie.Need-put-requires-2
 put-requires-2 c κs = search needs
 
--- src/ipv4.rt:87:33
-add-t13 : tie.Need-add-t13
-add-t13 c = search needs
+-- src/ipv4.rt:74:19
+add-replied : tie.Need-add-replied
+add-replied c = search needs
 
--- src/ipv4.rt:88:16
-with-next-id-requires : tie.Need-with-next-id-requires
-with-next-id-requires c κs = search needs
+-- src/ipv4.rt:74:5
+replied-requires : tie.Need-replied-requires
+replied-requires c κs = search needs
 
--- src/ipv4.rt:56:1
+-- src/ipv4.rt:50:1
 same-length : tie.Need-same-length
 same-length c = search needs
 
--- src/ipv4.rt:56:1
+-- src/ipv4.rt:50:1
 returns-3 : tie.Need-returns-3
 returns-3 c =
     let a = c .before .before .before .before .before .before .before .before .before .before .before .before .before .before .before .before .args in
-    rw (c .with-next-id .ensures)
+    let good = c .before .before .before .before .before .before .before .before .before .before .before .before .before .before .before .before .good in
+    rw (c .replied .ensures)
     (built _ _ _ _ _ _ _ _ (omega arith) (omega arith)
     (c .before .before .before .put2 .ensures
     ∙ ap₂ (put 14) (c .before .before .before .before .before .before .before .before .before .before .before .header .ensures) (c .before .before .before .before .before .before .before .before .put .ensures ∙ ap (λ (e : List ℕ). put 0 e (a .out .now)) (c .before .before .before .before .before .before .before .before .before .before .before .before .ethernet-header .ensures))
-    ∙ framed (a .dst-mac) (a .src-ip) (a .dst-ip) (omega arith) (omega arith) (omega arith) (a .guest .id) (a .proto) (a .len) (a .out .now) (omega arith)))
+    ∙ framed (a .dst-mac) (a .src-ip) (a .dst-ip) (omega (arith, good)) (omega (arith, good)) (omega (arith, good)) (a .guest .id) (a .proto) (a .len) (a .out .now) (omega arith)))
 
 pub make-ip-frame-in-place-spec : {M : Type 1} → statement M
 make-ip-frame-in-place-spec =
     tie.close
     (tie.spec
+    refused-requires
     returns
     add-if2
     add-t14
+    refused-requires-2
     returns-2
     ethernet-header-requires
     add-header
@@ -96,7 +102,7 @@ make-ip-frame-in-place-spec =
     put-requires
     slice-aggregate-put-2
     put-requires-2
-    add-t13
-    with-next-id-requires
+    add-replied
+    replied-requires
     same-length
     returns-3)

@@ -10,8 +10,7 @@ use Rattle.frames.proofs.sums.words_total.Statement.{statement}
 use Rattle.frames.proofs.sums.words_total.Tie as tie
 use Rattle.frames.proofs.sums.words_total.Reads as reads
 use Rattle.frames.proofs.sums.words_total.Lts as lts
-use Rattle.frames.proofs.sums.high_half.Reads as high-half-reads
-use Rattle.frames.proofs.sums.low_half.Reads as low-half-reads
+use Rattle.frames.proofs.sums.word.Reads as word-reads
 
 abbrev Inv-loop : tie.InvT-loop
 Inv-loop piece sum₀ i₀ sum i = (i ≤ length piece) × (sum + total (drop i piece) ≡ total piece) × (sum * 2 ≤ 65535 * i)
@@ -27,33 +26,25 @@ loop-holds c = search needs
 add-loop : tie.Need-add-loop Inv-loop μ-loop
 add-loop c = search needs
 
--- src/sums.rt:41:26
-shared-slice-read-high-half : tie.Need-shared-slice-read-high-half Inv-loop μ-loop
-shared-slice-read-high-half c = search needs
+-- src/sums.rt:41:21
+shared-slice-read-word : tie.Need-shared-slice-read-word Inv-loop μ-loop
+shared-slice-read-word c = search needs
+
+-- src/sums.rt:41:37
+add-word : tie.Need-add-word Inv-loop μ-loop
+add-word c = search needs
+
+-- src/sums.rt:41:31
+shared-slice-read-word-2 : tie.Need-shared-slice-read-word-2 Inv-loop μ-loop
+shared-slice-read-word-2 c = search needs
 
 -- src/sums.rt:41:16
-high-half-requires : tie.Need-high-half-requires Inv-loop μ-loop
-high-half-requires c κs = search needs
-
--- src/sums.rt:41:53
-add-low-half : tie.Need-add-low-half Inv-loop μ-loop
-add-low-half c = search needs
-
--- src/sums.rt:41:47
-shared-slice-read-low-half : tie.Need-shared-slice-read-low-half Inv-loop μ-loop
-shared-slice-read-low-half c = search needs
-
--- src/sums.rt:41:38
-low-half-requires : tie.Need-low-half-requires Inv-loop μ-loop
-low-half-requires c κs = search needs
-
--- src/sums.rt:41:16
-add-sum : tie.Need-add-sum Inv-loop μ-loop
-add-sum c = search needs
+word-requires : tie.Need-word-requires Inv-loop μ-loop
+word-requires c κs = search needs
 
 -- src/sums.rt:41:9
-add-sum-2 : tie.Need-add-sum-2 Inv-loop μ-loop
-add-sum-2 c = search needs
+add-sum : tie.Need-add-sum Inv-loop μ-loop
+add-sum c = search needs
 
 -- src/sums.rt:42:9
 add-i : tie.Need-add-i Inv-loop μ-loop
@@ -66,16 +57,15 @@ loop-less c = search needs
 -- src/sums.rt:40:5
 loop-again : tie.Need-loop-again Inv-loop μ-loop
 loop-again c =
-    let l = c .before .before .before .before .before .loop in
-    omega (arith, total-step (c .before .before .before .before .before .before .before .args .piece .now) (l .i) (omega arith))
+    omega (arith, total-step (c .before .before .before .before .before .before .args .piece .now) (c .before .before .before .before .loop .i) (omega arith))
 
--- src/sums.rt:45:32
-shared-slice-read-high-half-2 : tie.Need-shared-slice-read-high-half-2 Inv-loop μ-loop
-shared-slice-read-high-half-2 c = search needs
+-- src/sums.rt:45:27
+shared-slice-read-word-3 : tie.Need-shared-slice-read-word-3 Inv-loop μ-loop
+shared-slice-read-word-3 c = search needs
 
 -- src/sums.rt:45:22
-high-half-requires-2 : tie.Need-high-half-requires-2 Inv-loop μ-loop
-high-half-requires-2 c κs = search needs
+word-requires-2 : tie.Need-word-requires-2 Inv-loop μ-loop
+word-requires-2 c κs = search needs
 
 -- src/sums.rt:45:16
 add-result : tie.Need-add-result Inv-loop μ-loop
@@ -84,10 +74,7 @@ add-result c = search needs
 -- src/sums.rt:45:9
 returns : tie.Need-returns Inv-loop μ-loop
 returns c =
-    omega (
-      arith,
-      total-last (c .before .before .before .before .before .before .args .piece .now) (c .before .before .before .before .loop .i) (omega arith),
-    )
+    omega (arith, total-last (c .before .before .before .before .before .before .args .piece .now) (c .before .before .before .before .loop .i) (omega arith))
 
 -- src/sums.rt:34:1
 returns-2 : tie.Need-returns-2 Inv-loop μ-loop
@@ -102,18 +89,16 @@ words-total-spec =
     μ-loop
     loop-holds
     add-loop
-    shared-slice-read-high-half
-    high-half-requires
-    add-low-half
-    shared-slice-read-low-half
-    low-half-requires
+    shared-slice-read-word
+    add-word
+    shared-slice-read-word-2
+    word-requires
     add-sum
-    add-sum-2
     add-i
     loop-less
     loop-again
-    shared-slice-read-high-half-2
-    high-half-requires-2
+    shared-slice-read-word-3
+    word-requires-2
     add-result
     returns
     returns-2)

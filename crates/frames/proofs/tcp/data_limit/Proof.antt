@@ -1,6 +1,7 @@
 use mathlib.Core.Path.{refl}
 use lib.Dec.{lit≤}
-use Rattle.frames.specs.Rfc9293.{options, dataLimit}
+use Rattle.frames.specs.Builders.{dataLimit}
+use Rattle.frames.specs.Rfc9293.{options}
 use Rattle.frames.proofs.TcpLaws.{with-syn, without-syn}
 use Rattle.frames.proofs.tcp.data_limit.Statement.{statement}
 use Rattle.frames.proofs.tcp.data_limit.Tie as tie

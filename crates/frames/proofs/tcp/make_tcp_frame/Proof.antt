@@ -13,13 +13,6 @@ use Rattle.frames.proofs.Framed.{framed-there}
 use Rattle.frames.proofs.TcpLaws.{options-take, limit-holds, length-segment}
 use Rattle.frames.proofs.tcp.make_tcp_frame.Statement.{statement}
 use Rattle.frames.proofs.tcp.make_tcp_frame.Tie as tie
-use Rattle.frames.proofs.tcp.make_tcp_frame.Reads as reads
-use Rattle.frames.proofs.tcp.make_tcp_frame.Lts as lts
-use Rattle.frames.proofs.ipv4.make_ip_frame_in_place.Reads as make-ip-frame-in-place-reads
-use Rattle.frames.proofs.tcp.data_limit.Reads as data-limit-reads
-use Rattle.frames.proofs.tcp.options_length.Reads as options-length-reads
-use Rattle.frames.proofs.tcp.summed_header.Reads as summed-header-reads
-use Rattle.frames.proofs.write.put_three.Reads as put-three-reads
 
 -- src/tcp.rt:55:9
 options-length-requires : tie.Need-options-length-requires
@@ -30,55 +23,63 @@ data-limit-requires : tie.Need-data-limit-requires
 data-limit-requires c κs = search needs
 
 -- src/tcp.rt:57:9
-returns : tie.Need-returns
-returns c = refused-too-long _ _ _ _ _ _ _ (omega arith)
+refused-requires : tie.Need-refused-requires
+refused-requires c κs = search needs
 
--- src/tcp.rt:62:23
+-- src/tcp.rt:57:9
+returns : tie.Need-returns
+returns c = rw (c .refused .ensures) (refused-too-long _ _ _ _ _ _ _ (omega arith))
+
+-- src/tcp.rt:59:23
 add-segment-len : tie.Need-add-segment-len
 add-segment-len c = search needs
 
--- src/tcp.rt:62:23
+-- src/tcp.rt:59:23
 add-segment-len-2 : tie.Need-add-segment-len-2
 add-segment-len-2 c = search needs
 
--- src/tcp.rt:63:20
+-- src/tcp.rt:60:20
 add-if2 : tie.Need-add-if2
 add-if2 c = search needs
 
--- src/tcp.rt:65:38
+-- src/tcp.rt:61:46
 add-t21 : tie.Need-add-t21
 add-t21 c = search needs
 
--- src/tcp.rt:64:9
+-- src/tcp.rt:61:9
+refused-requires-2 : tie.Need-refused-requires-2
+refused-requires-2 c κs = search needs
+
+-- src/tcp.rt:61:9
 returns-2 : tie.Need-returns-2
 returns-2 c =
-    let a = c .before .before .before .before .before .before .args in
-    let need : 34 + (20 + c .before .before .before .options-length .result + length (a .data .now)) ≡ 54 + length (options (a .flags)) + length (a .data .now) = omega arith in
-    rw need (refused-no-room _ _ _ _ _ _ _ (omega arith) (omega arith))
+    let a = c .before .before .before .before .before .before .before .args in
+    let need : 34 + (20 + c .before .before .before .before .options-length .result + length (a .data .now)) ≡ 54 + length (options (a .flags)) + length (a .data .now) = omega arith in
+    rw (c .refused2 .ensures, need) (refused-no-room _ _ _ _ _ _ _ (omega arith) (omega arith))
 
--- src/tcp.rt:70:19
+-- src/tcp.rt:64:19
 array-share-prefix-all-options : tie.Need-array-share-prefix-all-options
 array-share-prefix-all-options c = search needs
 
--- src/tcp.rt:70:9
+-- src/tcp.rt:64:9
 slice-aggregate-options : tie.Need-slice-aggregate-options
 slice-aggregate-options c = sym (length-take-le (c .before .before .before .before .options-length .result) synOptions (omega arith))
 
--- src/tcp.rt:71:18
+-- src/tcp.rt:65:18
 summed-header-requires : tie.Need-summed-header-requires
 summed-header-requires c κs =
     (ap (λ (n : ℕ). take n synOptions) (c .before .before .before .before .options-length .ensures .0) ∙ options-take (c .before .before .before .before .before .before .before .args .flags), omega arith)
 
--- src/tcp.rt:72:32
+-- src/tcp.rt:66:32
 slice-aggregate-put-three : tie.Need-slice-aggregate-put-three
 slice-aggregate-put-three c = search needs
 
--- src/tcp.rt:72:5
+-- src/tcp.rt:66:5
 put-three-requires : tie.Need-put-three-requires
 put-three-requires c κs =
     omega (arith, length-take-le (c .before .before .before .before .before .before .before .options-length .result) synOptions (omega arith))
 
--- src/tcp.rt:76:5
+-- src/tcp.rt:70:5
 make-ip-frame-in-place-requires : tie.Need-make-ip-frame-in-place-requires
 make-ip-frame-in-place-requires c κs = search needs
 
@@ -116,11 +117,13 @@ make-tcp-frame-spec =
     (tie.spec
     options-length-requires
     data-limit-requires
+    refused-requires
     returns
     add-segment-len
     add-segment-len-2
     add-if2
     add-t21
+    refused-requires-2
     returns-2
     array-share-prefix-all-options
     slice-aggregate-options

@@ -1,6 +1,6 @@
 use mathlib.Core.Path.{refl}
 use lib.Dec.{lit≤}
-use Rattle.frames.specs.Rfc9293.{options, dataLimit}
+use Rattle.frames.specs.Rfc9293.{options}
 use Rattle.frames.proofs.TcpLaws.{with-syn, without-syn}
 use Rattle.frames.proofs.tcp.options_length.Statement.{statement}
 use Rattle.frames.proofs.tcp.options_length.Tie as tie

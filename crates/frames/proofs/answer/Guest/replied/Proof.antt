@@ -1,0 +1,22 @@
+-- `Guest::replied` meets its contract: the sum that wraps at 16 bits is the next id.
+use Prim.Native.Nat.{ℕ}
+use mathlib.Core.Path.{ap}
+use Rattle.frames.specs.declared.answer.Answer.{Answer}
+use Rattle.frames.specs.declared.answer.Verdict.the-variants.{Reply}
+use borrow.Author.Needs.{needs}
+use Rattle.frames.proofs.answer.Guest.replied.Statement.{statement}
+use Rattle.frames.proofs.answer.Guest.replied.Tie as tie
+
+-- src/answer.rt:51:21
+wrapping-add-u16-requires : tie.Need-wrapping-add-u16-requires
+wrapping-add-u16-requires c κs = search needs
+
+-- src/answer.rt:43:5
+returns : tie.Need-returns
+returns c =
+    let a = c .before .before .args in
+    let g = a .self in
+    ap (λ (k : ℕ). let r : Answer = record { verdict = Reply (a .n); guest = record { mac = g .mac; id = k; xid = g .xid } } in r) (c .wrapping-add-u16 .ensures)
+
+pub replied-spec : {M : Type 1} → statement M
+replied-spec = tie.close (tie.spec wrapping-add-u16-requires returns)
