@@ -4,10 +4,11 @@ ghost use mathlib.Core.List.{_++_};
 ghost use Prim.Native.Nat.{_+_, _%_, _≤_};
 ghost use lib.ListN.{length};
 ghost use Rattle.frames.specs.Answer.{Meets};
+ghost use Rattle.frames.specs.Bytes.{put as Bytes·put};
 ghost use Rattle.frames.specs.Builders.{dataLimit, makeTcpFrame};
 ghost use Rattle.frames.specs.Rfc1071.{checksum as Rfc1071·checksum};
 ghost use Rattle.frames.specs.Rfc768.{pseudoHeader};
-ghost use Rattle.frames.specs.Rfc9293.{covered, segmentHeader, summedHeader, options as Rfc9293·options};
+ghost use Rattle.frames.specs.Rfc9293.{covered, segment, segmentHeader, summedHeader, options as Rfc9293·options};
 use crate::answer::Answer;
 use crate::answer::Guest;
 use crate::answer::Verdict;
@@ -62,10 +63,7 @@ pub fn make_tcp_frame(
     if out.len() < SEGMENT_AT + segment_len {
         return guest.refused(Verdict::NoRoom(SEGMENT_AT + segment_len));
     }
-    let all_options = SYN_OPTIONS;
-    let options = &all_options[..option_len];
-    let header = summed_header(ends, seq, ack, flags, options, data);
-    put_three(out, SEGMENT_AT, &header, options, data);
+    put_segment(ends, seq, ack, flags, data, out);
     let dst_mac = ends.dst_mac;
     let src_ip = ends.src_ip;
     let dst_ip = ends.dst_ip;
@@ -78,6 +76,19 @@ pub fn make_tcp_frame(
         segment_len,
         out,
     )
+}
+
+// The segment, with its checksum, from 34 on.
+fn put_segment(ends: Endpoints, seq: u32, ack: u32, flags: u8, data: &[u8], out: &mut [u8])
+    requires { ⌜ length (now «data») ≤ dataLimit flags ⌝ }
+    requires { ⌜ 54 + length (Rfc9293·options flags) + length (now «data») ≤ length (now out) ⌝ }
+    ensures { λ _. ⌜ now (out .exit) ≡ Bytes·put 34 (segment ends seq ack flags (now («data» .entry))) (now (out .entry)) ⌝ }
+{
+    let all_options = SYN_OPTIONS;
+    let option_len = options_length(flags);
+    let options = &all_options[..option_len];
+    let header = summed_header(ends, seq, ack, flags, options, data);
+    put_three(out, SEGMENT_AT, &header, options, data);
 }
 
 // The header with the segment's checksum in it.

@@ -1,0 +1,64 @@
+-- `tcp::put_segment` meets its contract: header, options and data put behind each other are the segment.
+use Prim.Native.Nat.{ℕ}
+use mathlib.Core.Path.{ap, ap₂, sym, _∙_}
+use mathlib.Core.List.{List, _++_}
+use native.Mathlib.Omega.{arith}
+use lib.ListN.{take}
+use lib.Seq.{length-take-le}
+use Rattle.frames.specs.Bytes.{put}
+use Rattle.frames.specs.Rfc9293.{synOptions, segment}
+use Rattle.frames.proofs.TcpLaws.{options-take}
+use borrow.Author.Needs.{needs}
+use Rattle.frames.proofs.tcp.put_segment.Statement.{statement}
+use Rattle.frames.proofs.tcp.put_segment.Tie as tie
+
+-- src/tcp.rt:88:9
+options-length-requires : tie.Need-options-length-requires
+options-length-requires c κs = search needs
+
+-- src/tcp.rt:89:19
+array-share-prefix-all-options : tie.Need-array-share-prefix-all-options
+array-share-prefix-all-options c = search needs
+
+-- src/tcp.rt:89:9
+slice-aggregate-options : tie.Need-slice-aggregate-options
+slice-aggregate-options c = sym (length-take-le (c .before .options-length .result) synOptions (omega arith))
+
+-- src/tcp.rt:90:18
+summed-header-requires : tie.Need-summed-header-requires
+summed-header-requires c κs =
+    (ap (λ (n : ℕ). take n synOptions) (c .before .options-length .ensures .0) ∙ options-take (c .before .before .before .before .args .flags), omega arith)
+
+-- src/tcp.rt:91:32
+slice-aggregate-put-three : tie.Need-slice-aggregate-put-three
+slice-aggregate-put-three c = search needs
+
+-- src/tcp.rt:91:5
+put-three-requires : tie.Need-put-three-requires
+put-three-requires c κs = omega (arith, length-take-le (c .before .before .before .before .options-length .result) synOptions (omega arith))
+
+-- src/tcp.rt:82:1
+same-length : tie.Need-same-length
+same-length c = search needs
+
+-- src/tcp.rt:82:1
+returns : tie.Need-returns
+unfolding segment
+returns c =
+    let a = c .before .before .before .before .before .before .before .before .before .before .args in
+    c .before .before .put-three .ensures
+    ∙ ap₂ (λ (h o : List ℕ). put 34 (h ++ o ++ a .data .now) (a .out .now)) (c .before .before .before .before .before .summed-header .ensures)
+    (ap (λ (n : ℕ). take n synOptions) (c .before .before .before .before .before .before .before .options-length .ensures .0) ∙ options-take (a .flags))
+
+pub put-segment-spec : {M : Type 1} → statement M
+put-segment-spec =
+    tie.close
+    (tie.spec
+    options-length-requires
+    array-share-prefix-all-options
+    slice-aggregate-options
+    summed-header-requires
+    slice-aggregate-put-three
+    put-three-requires
+    same-length
+    returns)
