@@ -1,7 +1,7 @@
 // Field readers for frames of any length: a byte past the end reads as 0. Whoever has to tell a
 // short frame from zeros looks at its length first, as document 01's order of tests does.
 ghost use mathlib.Core.Path.{_≡_};
-ghost use Rattle.frames.specs.Bytes.{u8At, u16At, u32At};
+ghost use Rattle.frames.specs.Bytes.{u8At, u16At, u32At, bytesAt};
 ghost use Rattle.frames.specs.Ethernet.{sourceMac, typeOf, body};
 ghost use Rattle.frames.specs.Rfc791.{headerLength, protocolOf, sourceOf, targetOf};
 
@@ -44,17 +44,40 @@ pub fn u32be(buf: &[u8], at: usize) -> u32
     (u16be(buf, at) as u32) * 65536 + (u16be(buf, at + 2) as u32)
 }
 
+pub fn mac_at(buf: &[u8], at: usize) -> [u8; 6]
+    ensures { λ r. ⌜ r ≡ bytesAt (now (buf .entry)) at 6 ⌝ }
+{
+    if buf.len() <= at {
+        return [0, 0, 0, 0, 0, 0];
+    }
+    [
+        u8be(buf, at),
+        u8be(buf, at + 1),
+        u8be(buf, at + 2),
+        u8be(buf, at + 3),
+        u8be(buf, at + 4),
+        u8be(buf, at + 5),
+    ]
+}
+
+pub fn address_at(buf: &[u8], at: usize) -> [u8; 4]
+    ensures { λ r. ⌜ r ≡ bytesAt (now (buf .entry)) at 4 ⌝ }
+{
+    if buf.len() <= at {
+        return [0, 0, 0, 0];
+    }
+    [
+        u8be(buf, at),
+        u8be(buf, at + 1),
+        u8be(buf, at + 2),
+        u8be(buf, at + 3),
+    ]
+}
+
 pub fn eth_src(frame: &[u8]) -> [u8; 6]
     ensures { λ r. ⌜ r ≡ sourceMac (now (frame .entry)) ⌝ }
 {
-    [
-        u8be(frame, ETH_SRC),
-        u8be(frame, ETH_SRC + 1),
-        u8be(frame, ETH_SRC + 2),
-        u8be(frame, ETH_SRC + 3),
-        u8be(frame, ETH_SRC + 4),
-        u8be(frame, ETH_SRC + 5),
-    ]
+    mac_at(frame, ETH_SRC)
 }
 
 pub fn eth_type(frame: &[u8]) -> u16
@@ -72,23 +95,13 @@ pub fn ip_proto(frame: &[u8]) -> u8
 pub fn ip_src(frame: &[u8]) -> [u8; 4]
     ensures { λ r. ⌜ r ≡ sourceOf (body (now (frame .entry))) ⌝ }
 {
-    [
-        u8be(frame, IP_SRC),
-        u8be(frame, IP_SRC + 1),
-        u8be(frame, IP_SRC + 2),
-        u8be(frame, IP_SRC + 3),
-    ]
+    address_at(frame, IP_SRC)
 }
 
 pub fn ip_dst(frame: &[u8]) -> [u8; 4]
     ensures { λ r. ⌜ r ≡ targetOf (body (now (frame .entry))) ⌝ }
 {
-    [
-        u8be(frame, IP_DST),
-        u8be(frame, IP_DST + 1),
-        u8be(frame, IP_DST + 2),
-        u8be(frame, IP_DST + 3),
-    ]
+    address_at(frame, IP_DST)
 }
 
 // The low four bits of byte 14 count words of four bytes; its high four bits are the version.

@@ -7,6 +7,8 @@ use crate::tally;
 use frames::Answer;
 use frames::Endpoints;
 use frames::Guest;
+use frames::fields::address_at;
+use frames::fields::mac_at;
 use frames::fields::u8be;
 use frames::fields::u16be;
 use frames::fields::u32be;
@@ -159,9 +161,9 @@ fn call(line: &[u8], kind: u8, payload: &[u8], out: &mut [u8]) -> Answer {
 fn ip_frame(line: &[u8], payload: &[u8], out: &mut [u8]) -> Answer {
     frames::make_ip_frame(
         guest(line),
-        mac(line, 3),
-        address(line, 9),
-        address(line, 13),
+        mac_at(line, 3),
+        address_at(line, 9),
+        address_at(line, 13),
         u8be(line, 17),
         payload,
         out,
@@ -172,9 +174,9 @@ fn ip_frame_in_place(line: &[u8], payload: &[u8], out: &mut [u8]) -> Answer {
     lay_at_34(payload, out);
     frames::make_ip_frame_in_place(
         guest(line),
-        mac(line, 3),
-        address(line, 9),
-        address(line, 13),
+        mac_at(line, 3),
+        address_at(line, 9),
+        address_at(line, 13),
         u8be(line, 17),
         payload.len(),
         out,
@@ -200,10 +202,10 @@ fn udp_payload(line: &[u8], payload: &[u8], out: &mut [u8]) -> Answer {
 
 fn tcp_frame(line: &[u8], payload: &[u8], out: &mut [u8]) -> Answer {
     let ends = Endpoints {
-        dst_mac: mac(line, 3),
-        src_ip: address(line, 9),
+        dst_mac: mac_at(line, 3),
+        src_ip: address_at(line, 9),
         src_port: u16be(line, 13),
-        dst_ip: address(line, 15),
+        dst_ip: address_at(line, 15),
         dst_port: u16be(line, 19),
     };
     frames::make_tcp_frame(
@@ -247,28 +249,4 @@ fn is_answer(
         && after.id == std::num::wrapping_add_u16(u16be(line, 1), spent)
         && after.xid == 0x0708090a
         && answers::is_expected(e, line, payload, verdict, out)
-}
-
-fn mac(line: &[u8], at: usize) -> [u8; 6]
-    requires { ⌜ at ≤ 64 ⌝ }
-{
-    [
-        u8be(line, at),
-        u8be(line, at + 1),
-        u8be(line, at + 2),
-        u8be(line, at + 3),
-        u8be(line, at + 4),
-        u8be(line, at + 5),
-    ]
-}
-
-fn address(line: &[u8], at: usize) -> [u8; 4]
-    requires { ⌜ at ≤ 64 ⌝ }
-{
-    [
-        u8be(line, at),
-        u8be(line, at + 1),
-        u8be(line, at + 2),
-        u8be(line, at + 3),
-    ]
 }
