@@ -1,5 +1,4 @@
 pub mod Lists
-pub mod SumLaws
 pub mod Built
 pub mod Lengths
 pub mod Framed

@@ -7,13 +7,13 @@ use native.Mathlib.Omega.{arith}
 use lib.ListN.{length, drop, length-append}
 use lib.Seq.{take-at}
 use Rattle.frames.specs.Bytes.{part}
-use Rattle.frames.specs.Rfc1071.{words, sum, total, fold, checksum, SumsRight}
+use Rattle.sums.specs.Rfc1071.{words, sum, total, fold, checksum, SumsRight}
 use Rattle.frames.specs.Rfc768.{pseudoHeader}
 use Rattle.frames.specs.Rfc791.{headerWith, header, ipFrame}
 use Rattle.frames.specs.Rfc9293.{options, segmentHeader, summedHeader, segment, covered, tcpFrame}
 use Rattle.frames.specs.declared.tcp.Endpoints.{Endpoints}
 use Rattle.frames.proofs.Lists.{all-bytes}
-use Rattle.frames.proofs.SumLaws.{fold-zero, fold-pos, total-append}
+use Rattle.sums.proofs.Laws.{fold-zero, fold-pos, total-append}
 use Rattle.frames.proofs.Lengths.{length-header, drop-14, drop-34}
 use Rattle.frames.proofs.TcpLaws.{options-even}
 

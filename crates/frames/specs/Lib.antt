@@ -1,6 +1,5 @@
 pub mod Pick
 pub mod Bytes
-pub mod Rfc1071
 pub mod Ethernet
 pub mod Rfc791
 pub mod Rfc768

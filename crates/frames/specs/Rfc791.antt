@@ -3,7 +3,7 @@ use Prim.Native.Nat.{ℕ, _+_, _*_, _/_, _%_}
 use mathlib.Core.List.{List, [], _∷_, _++_}
 use lib.ListN.{length}
 use Rattle.frames.specs.Bytes.{be16, u8At, u16At, bytesAt}
-use Rattle.frames.specs.Rfc1071.{checksum}
+use Rattle.sums.specs.Rfc1071.{checksum}
 use Rattle.frames.specs.Ethernet.{ethernet}
 use Rattle.frames.specs.Network.{gatewayMac}
 

@@ -6,7 +6,7 @@ use lib.Dec.{eqb}
 use mathlib.Core.Bool.{Bool}
 use Rattle.frames.specs.Pick.{pick}
 use Rattle.frames.specs.Bytes.{be16, be32, u8At, u16At}
-use Rattle.frames.specs.Rfc1071.{checksum}
+use Rattle.sums.specs.Rfc1071.{checksum}
 use Rattle.frames.specs.Rfc768.{pseudoHeader}
 use Rattle.frames.specs.Rfc791.{ipFrame}
 use Rattle.frames.specs.declared.tcp.Endpoints.{Endpoints}

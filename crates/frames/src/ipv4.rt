@@ -11,8 +11,8 @@ use crate::answer::Answer;
 use crate::answer::Guest;
 use crate::answer::Verdict;
 use crate::network::GATEWAY_MAC;
-use crate::sums::checksum;
 use crate::write::put;
+use sums::checksum;
 
 // The Ethernet and the IPv4 header together: a payload lies behind them.
 const PAYLOAD_AT: usize = 34;

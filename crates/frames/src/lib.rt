@@ -1,10 +1,9 @@
-// Ethernet, IPv4, UDP and TCP on the wire: the record of a guest, the answers of a call, the
-// RFC 1071 checksum and the three builders. No function here relies on checks by its caller.
+// Ethernet, IPv4, UDP and TCP on the wire: the record of a guest, the answers of a call, field
+// readers and the three builders. No function here relies on checks by its caller.
 mod answer;
 pub mod fields;
 mod ipv4;
 mod network;
-mod sums;
 mod tcp;
 mod udp;
 mod write;
@@ -16,8 +15,6 @@ pub use ipv4::make_ip_frame;
 pub use ipv4::make_ip_frame_in_place;
 pub use network::GATEWAY_MAC;
 pub use network::Network;
-pub use sums::checksum;
-pub use sums::sum;
 pub use tcp::Endpoints;
 pub use tcp::make_tcp_frame;
 pub use udp::make_udp_payload;

@@ -6,16 +6,16 @@ ghost use lib.ListN.{length};
 ghost use Rattle.frames.specs.Answer.{Meets};
 ghost use Rattle.frames.specs.Bytes.{put as Bytes·put};
 ghost use Rattle.frames.specs.Builders.{dataLimit, makeTcpFrame};
-ghost use Rattle.frames.specs.Rfc1071.{checksum as Rfc1071·checksum};
+ghost use Rattle.sums.specs.Rfc1071.{checksum as Rfc1071·checksum};
 ghost use Rattle.frames.specs.Rfc768.{pseudoHeader};
 ghost use Rattle.frames.specs.Rfc9293.{covered, segment, segmentHeader, summedHeader, options as Rfc9293·options};
 use crate::answer::Answer;
 use crate::answer::Guest;
 use crate::answer::Verdict;
 use crate::ipv4::make_ip_frame_in_place;
-use crate::sums::sum;
 use crate::udp::pseudo_header;
 use crate::write::put_three;
+use sums::sum;
 
 // Who speaks to whom; `dst_mac` is the guest's.
 pub struct Endpoints {

@@ -1,6 +1,6 @@
 -- Every row of the table of marked cases holds, by computation.
 use mathlib.Core.Path.{refl}
-use Rattle.frames.specs.Rfc1071.{words, sum, total, fold, checksum}
+use Rattle.sums.specs.Rfc1071.{words, sum, total, fold, checksum}
 use Rattle.laws.specs.Marked.{All, marked}
 
 pub marked-hold : All marked

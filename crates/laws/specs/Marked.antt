@@ -2,7 +2,7 @@
 use Prim.Native.Nat.{ℕ}
 use mathlib.Core.Path.{_≡_}
 use mathlib.Core.List.{List, [], _∷_}
-use Rattle.frames.specs.Rfc1071.{checksum}
+use Rattle.sums.specs.Rfc1071.{checksum}
 
 -- a row: the bytes summed and their checksum
 pub data Case : Type 0 where

@@ -21,7 +21,14 @@ pub struct Expected {
 // The byte that every buffer is full of before a call.
 const UNTOUCHED: u8 = 0xa5;
 
-// Room for the longest payload of a line. The contract gives only the length.
+// The largest input, with a byte to spare. The contract gives only the length, as those below.
+pub fn longest_input() -> [u8; 393216]
+    ensures { λ r. ⌜ 393216 ≡ length r ⌝ }
+{
+    [0; 393216]
+}
+
+// Room for the longest payload of a line.
 pub fn longest_payload() -> [u8; 131200]
     ensures { λ r. ⌜ 131200 ≡ length r ⌝ }
 {

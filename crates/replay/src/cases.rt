@@ -75,7 +75,7 @@ fn checksum(line: &[u8]) -> bool {
     if line.len() < 3 {
         return false;
     }
-    frames::checksum(&line[3..]) == u16be(line, 1)
+    sums::checksum(&line[3..]) == u16be(line, 1)
 }
 
 fn two_pieces(line: &[u8]) -> bool {
@@ -83,7 +83,7 @@ fn two_pieces(line: &[u8]) -> bool {
     if line.len() < 5 + n {
         return false;
     }
-    65535 - frames::sum(frames::sum(0, &line[5..5 + n]), &line[5 + n..]) == u16be(line, 1)
+    65535 - sums::sum(sums::sum(0, &line[5..5 + n]), &line[5 + n..]) == u16be(line, 1)
 }
 
 fn checksum_by_rule(line: &[u8]) -> bool {
@@ -101,7 +101,7 @@ fn checksum_by_rule_in(line: &[u8], space: &mut [u8]) -> bool {
 
 fn is_checksum_by_rule(line: &[u8], bytes: &mut [u8]) -> bool {
     answers::lay_payload(line, 0, u8be(line, 3), bytes);
-    frames::checksum(bytes) == u16be(line, 1)
+    sums::checksum(bytes) == u16be(line, 1)
 }
 
 // A builder's line, whose expected answer starts at `at`.

@@ -20,12 +20,12 @@ pub fn sums_right(frame: &[u8]) -> bool {
     if frame.len() != 14 + total || total < hlen {
         return false;
     }
-    if frames::checksum(part(frame, 14, hlen)) != 0 {
+    if sums::checksum(part(frame, 14, hlen)) != 0 {
         return false;
     }
     let payload = part(frame, 14 + hlen, total - hlen);
     match ip_proto(frame) {
-        ICMP => frames::checksum(payload) == 0,
+        ICMP => sums::checksum(payload) == 0,
         TCP => with_pseudo_header(frame, payload) == 0,
         UDP => u16be(payload, 6) == 0 || with_pseudo_header(frame, payload) == 0,
         _ => true,
@@ -50,5 +50,5 @@ fn with_pseudo_header(frame: &[u8], payload: &[u8]) -> u16 {
         (len / 256) as u8,
         (len % 256) as u8,
     ];
-    65535 - frames::sum(frames::sum(0, &pseudo), payload)
+    65535 - sums::sum(sums::sum(0, &pseudo), payload)
 }

@@ -10,12 +10,10 @@ use tally::Tally;
 
 const STDIN: i32 = 0;
 
-const MOST: usize = 393216;
-
 fn main() {
-    let mut text = [0u8; MOST];
+    let mut text = answers::longest_input();
     let n = io::read_full(STDIN, &mut text);
-    if n == MOST {
+    if n == text.len() {
         io::write_all(1, b"input over 393215\n");
         return;
     }

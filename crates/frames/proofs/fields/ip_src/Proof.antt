@@ -1,16 +1,12 @@
+-- `fields::ip_src` meets its contract: a packet's byte is the frame's, 14 further on.
 use lib.Seq.{getD-drop}
 use borrow.Author.Needs.{needs}
 use Rattle.frames.proofs.fields.ip_src.Statement.{statement}
 use Rattle.frames.proofs.fields.ip_src.Tie as tie
-use Rattle.frames.proofs.fields.ip_src.Reads as reads
-use Rattle.frames.proofs.fields.ip_src.Lts as lts
-use Rattle.frames.proofs.fields.address_at.Reads as address-at-reads
 
--- src/fields.rt:98:5
 address-at-requires : tie.Need-address-at-requires
 address-at-requires c κs = search needs
 
--- src/fields.rt:95:1
 returns : tie.Need-returns
 returns c = simp getD-drop (c .address-at .ensures)
 

@@ -1,49 +1,38 @@
+-- `fields::u32be` meets its contract: past the end all four bytes read as 0.
 use Prim.Native.Nat.{_+_}
 use native.Mathlib.Omega.{arith}
 use borrow.Author.Needs.{needs}
 use Rattle.frames.proofs.Lists.{past-end}
 use Rattle.frames.proofs.fields.u32be.Statement.{statement}
 use Rattle.frames.proofs.fields.u32be.Tie as tie
-use Rattle.frames.proofs.fields.u32be.Reads as reads
-use Rattle.frames.proofs.fields.u32be.Lts as lts
-use Rattle.frames.proofs.fields.u16be.Reads as u16be-reads
 
--- src/fields.rt:42:9
 returns : tie.Need-returns
 returns c =
     let s = c .before .before .args .buf .now in
     let at = c .before .before .args .at in
     rw (past-end s at (omega arith), past-end s (at + 1) (omega arith), past-end s (at + 2) (omega arith), past-end s (at + 2 + 1) (omega arith))
 
--- src/fields.rt:44:6
 u16be-requires : tie.Need-u16be-requires
 u16be-requires c κs = search needs
 
--- src/fields.rt:44:6
 cast-result : tie.Need-cast-result
 cast-result c = search needs
 
--- src/fields.rt:44:5
 mul-result : tie.Need-mul-result
 mul-result c = search needs
 
--- src/fields.rt:44:51
 add-u16be : tie.Need-add-u16be
 add-u16be c = search needs
 
--- src/fields.rt:44:40
 u16be-requires-2 : tie.Need-u16be-requires-2
 u16be-requires-2 c κs = search needs
 
--- src/fields.rt:44:40
 cast-result-2 : tie.Need-cast-result-2
 cast-result-2 c = search needs
 
--- src/fields.rt:44:5
 add-result : tie.Need-add-result
 add-result c = search needs
 
--- src/fields.rt:38:1
 returns-2 : tie.Need-returns-2
 returns-2 c = search needs
 

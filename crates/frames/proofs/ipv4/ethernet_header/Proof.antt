@@ -1,60 +1,46 @@
+-- `ipv4::ethernet_header` meets its contract: byte by byte the literal is the definition.
 use native.Mathlib.Omega.{arith}
 use borrow.Author.Needs.{needs}
 use Rattle.frames.proofs.Lists.{all-bytes}
 use Rattle.frames.proofs.ipv4.ethernet_header.Statement.{statement}
 use Rattle.frames.proofs.ipv4.ethernet_header.Tie as tie
-use Rattle.frames.proofs.ipv4.ethernet_header.Reads as reads
-use Rattle.frames.proofs.ipv4.ethernet_header.Lts as lts
 
--- src/ipv4.rt:96:9
 array-read-t5 : tie.Need-array-read-t5
 array-read-t5 c = search needs
 
--- src/ipv4.rt:97:9
 array-read-t8 : tie.Need-array-read-t8
 array-read-t8 c = search needs
 
--- src/ipv4.rt:98:9
 array-read-t11 : tie.Need-array-read-t11
 array-read-t11 c = search needs
 
--- src/ipv4.rt:99:9
 array-read-t14 : tie.Need-array-read-t14
 array-read-t14 c = search needs
 
--- src/ipv4.rt:100:9
 array-read-t17 : tie.Need-array-read-t17
 array-read-t17 c = search needs
 
--- src/ipv4.rt:101:9
 array-read-t20 : tie.Need-array-read-t20
 array-read-t20 c = search needs
 
--- src/ipv4.rt:102:9
 array-read-t24 : tie.Need-array-read-t24
 array-read-t24 c = search needs
 
--- src/ipv4.rt:103:9
 array-read-t28 : tie.Need-array-read-t28
 array-read-t28 c = search needs
 
--- src/ipv4.rt:104:9
 array-read-t32 : tie.Need-array-read-t32
 array-read-t32 c = search needs
 
--- src/ipv4.rt:105:9
 array-read-t36 : tie.Need-array-read-t36
 array-read-t36 c = search needs
 
--- src/ipv4.rt:106:9
 array-read-t40 : tie.Need-array-read-t40
 array-read-t40 c = search needs
 
--- src/ipv4.rt:107:9
 array-read-t44 : tie.Need-array-read-t44
 array-read-t44 c = search needs
 
--- src/ipv4.rt:92:1
 returns : tie.Need-returns
 returns c = rw (all-bytes (c .args .t1) 6 (omega arith))
 

@@ -1,40 +1,30 @@
+-- `ipv4::header` meets its contract: the header with a blank checksum is summed, and the sum goes into its field.
 use Prim.Native.Nat.{ℕ}
 use mathlib.Core.Path.{ap, _∙_}
 use borrow.Author.Needs.{needs}
-use Rattle.frames.specs.Rfc1071.{checksum}
+use Rattle.sums.specs.Rfc1071.{checksum}
 use Rattle.frames.specs.Rfc791.{header, headerWith}
 use Rattle.frames.proofs.ipv4.header.Statement.{statement}
 use Rattle.frames.proofs.ipv4.header.Tie as tie
-use Rattle.frames.proofs.ipv4.header.Reads as reads
-use Rattle.frames.proofs.ipv4.header.Lts as lts
-use Rattle.frames.proofs.ipv4.header_with.Reads as header-with-reads
-use Rattle.frames.proofs.sums.checksum.Reads as checksum-reads
 
--- src/ipv4.rt:117:32
 cast-header-with : tie.Need-cast-header-with
 cast-header-with c = search needs
 
--- src/ipv4.rt:117:17
 header-with-requires : tie.Need-header-with-requires
 header-with-requires c κs = search needs
 
--- src/ipv4.rt:118:26
 slice-aggregate-checksum : tie.Need-slice-aggregate-checksum
 slice-aggregate-checksum c = search needs
 
--- src/ipv4.rt:118:17
 checksum-requires : tie.Need-checksum-requires
 checksum-requires c κs = search needs
 
--- src/ipv4.rt:118:35
 cast-header-with-2 : tie.Need-cast-header-with-2
 cast-header-with-2 c = search needs
 
--- src/ipv4.rt:118:5
 header-with-requires-2 : tie.Need-header-with-requires-2
 header-with-requires-2 c κs = search needs
 
--- src/ipv4.rt:113:1
 returns : tie.Need-returns
 unfolding header
 returns c =

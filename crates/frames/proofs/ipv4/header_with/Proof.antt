@@ -1,69 +1,53 @@
+-- `ipv4::header_with` meets its contract: byte by byte the literal is the definition.
 use native.Mathlib.Omega.{arith}
 use borrow.Author.Needs.{needs}
 use Rattle.frames.specs.Rfc791.{headerWith}
 use Rattle.frames.proofs.Lists.{all-bytes}
 use Rattle.frames.proofs.ipv4.header_with.Statement.{statement}
 use Rattle.frames.proofs.ipv4.header_with.Tie as tie
-use Rattle.frames.proofs.ipv4.header_with.Reads as reads
-use Rattle.frames.proofs.ipv4.header_with.Lts as lts
 
--- src/ipv4.rt:134:9
 cast-t10 : tie.Need-cast-t10
 cast-t10 c = search needs
 
--- src/ipv4.rt:135:9
 cast-t12 : tie.Need-cast-t12
 cast-t12 c = search needs
 
--- src/ipv4.rt:136:9
 cast-t14 : tie.Need-cast-t14
 cast-t14 c = search needs
 
--- src/ipv4.rt:137:9
 cast-t16 : tie.Need-cast-t16
 cast-t16 c = search needs
 
--- src/ipv4.rt:142:9
 cast-t18 : tie.Need-cast-t18
 cast-t18 c = search needs
 
--- src/ipv4.rt:143:9
 cast-t20 : tie.Need-cast-t20
 cast-t20 c = search needs
 
--- src/ipv4.rt:144:9
 array-read-t23 : tie.Need-array-read-t23
 array-read-t23 c = search needs
 
--- src/ipv4.rt:145:9
 array-read-t26 : tie.Need-array-read-t26
 array-read-t26 c = search needs
 
--- src/ipv4.rt:146:9
 array-read-t29 : tie.Need-array-read-t29
 array-read-t29 c = search needs
 
--- src/ipv4.rt:147:9
 array-read-t32 : tie.Need-array-read-t32
 array-read-t32 c = search needs
 
--- src/ipv4.rt:148:9
 array-read-t35 : tie.Need-array-read-t35
 array-read-t35 c = search needs
 
--- src/ipv4.rt:149:9
 array-read-t38 : tie.Need-array-read-t38
 array-read-t38 c = search needs
 
--- src/ipv4.rt:150:9
 array-read-t41 : tie.Need-array-read-t41
 array-read-t41 c = search needs
 
--- src/ipv4.rt:151:9
 array-read-t44 : tie.Need-array-read-t44
 array-read-t44 c = search needs
 
--- src/ipv4.rt:121:1
 returns : tie.Need-returns
 unfolding headerWith
 returns c = rw (all-bytes (c .args .t5) 4 (omega arith), all-bytes (c .args .t6) 4 (omega arith))

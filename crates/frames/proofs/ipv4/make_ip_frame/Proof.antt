@@ -7,43 +7,33 @@ use Rattle.frames.proofs.Built.{refused-too-long, refused-no-room}
 use Rattle.frames.proofs.ipv4.make_ip_frame.Statement.{statement}
 use Rattle.frames.proofs.ipv4.make_ip_frame.Tie as tie
 
--- src/ipv4.rt:40:9
 refused-requires : tie.Need-refused-requires
 refused-requires c κs = search needs
 
--- src/ipv4.rt:40:9
 returns : tie.Need-returns
 returns c = rw (c .refused .ensures) (refused-too-long _ _ _ _ _ _ _ (c .before .if1 .taken))
 
--- src/ipv4.rt:42:20
 add-if2 : tie.Need-add-if2
 add-if2 c = search needs
 
--- src/ipv4.rt:43:46
 add-t13 : tie.Need-add-t13
 add-t13 c = search needs
 
--- src/ipv4.rt:43:9
 refused-requires-2 : tie.Need-refused-requires-2
 refused-requires-2 c κs = search needs
 
--- src/ipv4.rt:43:9
 returns-2 : tie.Need-returns-2
 returns-2 c = rw (c .refused2 .ensures) (refused-no-room _ _ _ _ _ _ _ (c .before .before .if1 .left) (c .before .if2 .taken))
 
--- src/ipv4.rt:45:5
 put-requires : tie.Need-put-requires
 put-requires c κs = search needs
 
--- src/ipv4.rt:46:5
 make-ip-frame-in-place-requires : tie.Need-make-ip-frame-in-place-requires
 make-ip-frame-in-place-requires c κs = search needs
 
--- src/ipv4.rt:24:1
 same-length : tie.Need-same-length
 same-length c = search needs
 
--- src/ipv4.rt:24:1
 returns-3 : tie.Need-returns-3
 returns-3 c =
     let a = c .before .before .before .before .before .before .before .before .before .before .before .before .args in

@@ -10,71 +10,54 @@ use Rattle.frames.proofs.Built.{refused-too-long, refused-no-room, buil
 use Rattle.frames.proofs.ipv4.make_ip_frame_in_place.Statement.{statement}
 use Rattle.frames.proofs.ipv4.make_ip_frame_in_place.Tie as tie
 
--- src/ipv4.rt:65:9
 refused-requires : tie.Need-refused-requires
 refused-requires c κs = search needs
 
--- src/ipv4.rt:65:9
 returns : tie.Need-returns
 returns c = rw (c .refused .ensures) (refused-too-long _ _ _ _ _ _ _ (c .before .if1 .taken))
 
--- src/ipv4.rt:67:20
 add-if2 : tie.Need-add-if2
 add-if2 c = search needs
 
--- src/ipv4.rt:68:46
 add-t14 : tie.Need-add-t14
 add-t14 c = search needs
 
--- src/ipv4.rt:68:9
 refused-requires-2 : tie.Need-refused-requires-2
 refused-requires-2 c κs = search needs
 
--- src/ipv4.rt:68:9
 returns-2 : tie.Need-returns-2
 returns-2 c = rw (c .refused2 .ensures) (refused-no-room _ _ _ _ _ _ _ (c .before .before .if1 .left) (c .before .if2 .taken))
 
--- src/ipv4.rt:70:20
 ethernet-header-requires : tie.Need-ethernet-header-requires
 ethernet-header-requires c κs = search needs
 
--- src/ipv4.rt:71:21
 add-header : tie.Need-add-header
 add-header c = search needs
 
--- src/ipv4.rt:71:14
 header-requires : tie.Need-header-requires
 header-requires c κs = search needs
 
--- src/ipv4.rt:72:17
 slice-aggregate-put : tie.Need-slice-aggregate-put
 slice-aggregate-put c = search needs
 
--- src/ipv4.rt:72:5
 put-requires : tie.Need-put-requires
 put-requires c κs = search needs
 
--- src/ipv4.rt:73:18
 slice-aggregate-put-2 : tie.Need-slice-aggregate-put-2
 slice-aggregate-put-2 c = search needs
 
--- src/ipv4.rt:73:5
 put-requires-2 : tie.Need-put-requires-2
 put-requires-2 c κs = search needs
 
--- src/ipv4.rt:74:19
 add-replied : tie.Need-add-replied
 add-replied c = search needs
 
--- src/ipv4.rt:74:5
 replied-requires : tie.Need-replied-requires
 replied-requires c κs = search needs
 
--- src/ipv4.rt:50:1
 same-length : tie.Need-same-length
 same-length c = search needs
 
--- src/ipv4.rt:50:1
 returns-3 : tie.Need-returns-3
 returns-3 c =
     let a = c .before .before .before .before .before .before .before .before .before .before .before .before .before .before .before .before .args in

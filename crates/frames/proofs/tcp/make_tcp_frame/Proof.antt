@@ -11,62 +11,48 @@ use borrow.Author.Needs.{needs}
 use Rattle.frames.proofs.tcp.make_tcp_frame.Statement.{statement}
 use Rattle.frames.proofs.tcp.make_tcp_frame.Tie as tie
 
--- src/tcp.rt:58:9
 options-length-requires : tie.Need-options-length-requires
 options-length-requires c κs = search needs
 
--- src/tcp.rt:59:8
 data-limit-requires : tie.Need-data-limit-requires
 data-limit-requires c κs = search needs
 
--- src/tcp.rt:60:9
 refused-requires : tie.Need-refused-requires
 refused-requires c κs = search needs
 
--- src/tcp.rt:60:9
 returns : tie.Need-returns
 returns c = rw (c .refused .ensures) (refused-too-long _ _ _ _ _ _ _ (omega arith))
 
--- src/tcp.rt:62:23
 add-segment-len : tie.Need-add-segment-len
 add-segment-len c = search needs
 
--- src/tcp.rt:62:23
 add-segment-len-2 : tie.Need-add-segment-len-2
 add-segment-len-2 c = search needs
 
--- src/tcp.rt:63:20
 add-if2 : tie.Need-add-if2
 add-if2 c = search needs
 
--- src/tcp.rt:64:46
 add-t18 : tie.Need-add-t18
 add-t18 c = search needs
 
--- src/tcp.rt:64:9
 refused-requires-2 : tie.Need-refused-requires-2
 refused-requires-2 c κs = search needs
 
--- src/tcp.rt:64:9
 returns-2 : tie.Need-returns-2
 returns-2 c =
     let a = c .before .before .before .before .before .before .before .args in
     let need : 34 + (20 + c .before .before .before .before .options-length .result + length (a .data .now)) ≡ 54 + length (options (a .flags)) + length (a .data .now) = omega arith in
     rw (c .refused2 .ensures, need) (refused-no-room _ _ _ _ _ _ _ (omega arith) (omega arith))
 
--- src/tcp.rt:66:5
 put-segment-requires : tie.Need-put-segment-requires
 put-segment-requires c κs = search needs
 
--- src/tcp.rt:70:5
 make-ip-frame-in-place-requires : tie.Need-make-ip-frame-in-place-requires
 make-ip-frame-in-place-requires c κs = search needs
 
--- src/tcp.rt:44:1
 same-length : tie.Need-same-length
 same-length c = search needs
 
--- src/tcp.rt:44:1
 returns-3 : tie.Need-returns-3
 unfolding tcpFrame
 returns-3 c =

@@ -12,36 +12,28 @@ use borrow.Author.Needs.{needs}
 use Rattle.frames.proofs.tcp.put_segment.Statement.{statement}
 use Rattle.frames.proofs.tcp.put_segment.Tie as tie
 
--- src/tcp.rt:88:9
 options-length-requires : tie.Need-options-length-requires
 options-length-requires c κs = search needs
 
--- src/tcp.rt:89:19
 array-share-prefix-all-options : tie.Need-array-share-prefix-all-options
 array-share-prefix-all-options c = search needs
 
--- src/tcp.rt:89:9
 slice-aggregate-options : tie.Need-slice-aggregate-options
 slice-aggregate-options c = sym (length-take-le (c .before .options-length .result) synOptions (omega arith))
 
--- src/tcp.rt:90:18
 summed-header-requires : tie.Need-summed-header-requires
 summed-header-requires c κs =
     (ap (λ (n : ℕ). take n synOptions) (c .before .options-length .ensures .0) ∙ options-take (c .before .before .before .before .args .flags), omega arith)
 
--- src/tcp.rt:91:32
 slice-aggregate-put-three : tie.Need-slice-aggregate-put-three
 slice-aggregate-put-three c = search needs
 
--- src/tcp.rt:91:5
 put-three-requires : tie.Need-put-three-requires
 put-three-requires c κs = omega (arith, length-take-le (c .before .before .before .before .options-length .result) synOptions (omega arith))
 
--- src/tcp.rt:82:1
 same-length : tie.Need-same-length
 same-length c = search needs
 
--- src/tcp.rt:82:1
 returns : tie.Need-returns
 unfolding segment
 returns c =

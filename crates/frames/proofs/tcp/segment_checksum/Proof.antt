@@ -5,58 +5,43 @@ use mathlib.Core.List.{List, _++_}
 use native.Mathlib.Omega.{arith}
 use borrow.Author.Needs.{needs}
 use lib.ListN.{length, length-append}
-use Rattle.frames.specs.Rfc1071.{total, fold, checksum}
+use Rattle.sums.specs.Rfc1071.{total, fold, checksum}
 use Rattle.frames.specs.Rfc768.{pseudoHeader}
 use Rattle.frames.specs.Rfc9293.{covered}
-use Rattle.frames.proofs.SumLaws.{checksum-pieces}
+use Rattle.sums.proofs.Laws.{checksum-pieces}
 use Rattle.frames.proofs.tcp.segment_checksum.Statement.{statement}
 use Rattle.frames.proofs.tcp.segment_checksum.Tie as tie
-use Rattle.frames.proofs.tcp.segment_checksum.Reads as reads
-use Rattle.frames.proofs.tcp.segment_checksum.Lts as lts
-use Rattle.frames.proofs.sums.sum.Reads as sum-reads
-use Rattle.frames.proofs.udp.pseudo_header.Reads as pseudo-header-reads
 
--- src/tcp.rt:108:15
 add-len : tie.Need-add-len
 add-len c = search needs
 
--- src/tcp.rt:108:15
 add-len-2 : tie.Need-add-len-2
 add-len-2 c = search needs
 
--- src/tcp.rt:109:62
 cast-pseudo-header : tie.Need-cast-pseudo-header
 cast-pseudo-header c = search needs
 
--- src/tcp.rt:109:18
 pseudo-header-requires : tie.Need-pseudo-header-requires
 pseudo-header-requires c κs = search needs
 
--- src/tcp.rt:110:32
 slice-aggregate-sum : tie.Need-slice-aggregate-sum
 slice-aggregate-sum c = search needs
 
--- src/tcp.rt:110:25
 sum-requires : tie.Need-sum-requires
 sum-requires c κs = search needs
 
--- src/tcp.rt:110:21
 sum-requires-2 : tie.Need-sum-requires-2
 sum-requires-2 c κs = search needs
 
--- src/tcp.rt:110:17
 sum-requires-3 : tie.Need-sum-requires-3
 sum-requires-3 c κs = search needs
 
--- src/tcp.rt:110:13
 sum-requires-4 : tie.Need-sum-requires-4
 sum-requires-4 c κs = search needs
 
--- src/tcp.rt:110:5
 sub-result : tie.Need-sub-result
 sub-result c = search needs
 
--- src/tcp.rt:97:1
 returns : tie.Need-returns
 unfolding covered
 returns c =

@@ -7,87 +7,64 @@ use lib.ListN.{length}
 use Rattle.frames.specs.Rfc9293.{options, segmentHeader}
 use Rattle.frames.proofs.tcp.segment_header.Statement.{statement}
 use Rattle.frames.proofs.tcp.segment_header.Tie as tie
-use Rattle.frames.proofs.tcp.segment_header.Reads as reads
-use Rattle.frames.proofs.tcp.segment_header.Lts as lts
-use Rattle.frames.proofs.tcp.options_length.Reads as options-length-reads
 
--- src/tcp.rt:123:28
 options-length-requires : tie.Need-options-length-requires
 options-length-requires c κs = search needs
 
--- src/tcp.rt:123:19
 add-words : tie.Need-add-words
 add-words c = search needs
 
--- src/tcp.rt:123:17
 cast-words : tie.Need-cast-words
 cast-words c = search needs
 
--- src/tcp.rt:125:9
 cast-t12 : tie.Need-cast-t12
 cast-t12 c = search needs
 
--- src/tcp.rt:126:9
 cast-t14 : tie.Need-cast-t14
 cast-t14 c = search needs
 
--- src/tcp.rt:127:9
 cast-t16 : tie.Need-cast-t16
 cast-t16 c = search needs
 
--- src/tcp.rt:128:9
 cast-t18 : tie.Need-cast-t18
 cast-t18 c = search needs
 
--- src/tcp.rt:129:9
 cast-t21 : tie.Need-cast-t21
 cast-t21 c = search needs
 
--- src/tcp.rt:130:9
 cast-t24 : tie.Need-cast-t24
 cast-t24 c = search needs
 
--- src/tcp.rt:131:9
 cast-t27 : tie.Need-cast-t27
 cast-t27 c = search needs
 
--- src/tcp.rt:132:9
 cast-t30 : tie.Need-cast-t30
 cast-t30 c = search needs
 
--- src/tcp.rt:133:9
 cast-t33 : tie.Need-cast-t33
 cast-t33 c = search needs
 
--- src/tcp.rt:134:9
 cast-t36 : tie.Need-cast-t36
 cast-t36 c = search needs
 
--- src/tcp.rt:135:9
 cast-t39 : tie.Need-cast-t39
 cast-t39 c = search needs
 
--- src/tcp.rt:136:9
 cast-t42 : tie.Need-cast-t42
 cast-t42 c = search needs
 
--- src/tcp.rt:139:9
 cast-t45 : tie.Need-cast-t45
 cast-t45 c = search needs
 
--- src/tcp.rt:140:9
 cast-t47 : tie.Need-cast-t47
 cast-t47 c = search needs
 
--- src/tcp.rt:141:9
 cast-t49 : tie.Need-cast-t49
 cast-t49 c = search needs
 
--- src/tcp.rt:142:9
 cast-t51 : tie.Need-cast-t51
 cast-t51 c = search needs
 
--- src/tcp.rt:120:1
 returns : tie.Need-returns
 unfolding segmentHeader
 returns c =

@@ -1,35 +1,28 @@
+-- `tcp::summed_header` meets its contract: the header with a blank checksum is summed, and the sum goes into its field.
 use Prim.Native.Nat.{ℕ, _%_}
 use mathlib.Core.Path.{ap, ap₂, _∙_}
 use mathlib.Core.List.{List, _++_}
 use native.Mathlib.Omega.{arith}
 use borrow.Author.Needs.{needs}
 use lib.ListN.{length}
-use Rattle.frames.specs.Rfc1071.{checksum}
+use Rattle.sums.specs.Rfc1071.{checksum}
 use Rattle.frames.specs.Rfc9293.{covered, segmentHeader, summedHeader}
 use Rattle.frames.proofs.TcpLaws.{options-even, limit-holds}
 use Rattle.frames.proofs.tcp.summed_header.Statement.{statement}
 use Rattle.frames.proofs.tcp.summed_header.Tie as tie
-use Rattle.frames.proofs.tcp.summed_header.Reads as reads
-use Rattle.frames.proofs.tcp.summed_header.Lts as lts
-use Rattle.frames.proofs.tcp.segment_checksum.Reads as segment-checksum-reads
-use Rattle.frames.proofs.tcp.segment_header.Reads as segment-header-reads
 
--- src/tcp.rt:94:17
 segment-header-requires : tie.Need-segment-header-requires
 segment-header-requires c κs = search needs
 
--- src/tcp.rt:95:9
 segment-checksum-requires : tie.Need-segment-checksum-requires
 segment-checksum-requires c κs =
     let flags = c .before .before .before .before .before .before .args .flags in
     let len = ap length (c .before .before .before .before .before .before .pre .0) in
     (ap (λ (n : ℕ). n % 2) len ∙ options-even flags, omega (arith, len, limit-holds flags))
 
--- src/tcp.rt:96:5
 segment-header-requires-2 : tie.Need-segment-header-requires-2
 segment-header-requires-2 c κs = search needs
 
--- src/tcp.rt:80:1
 returns : tie.Need-returns
 unfolding summedHeader
 returns c =

@@ -11,60 +11,43 @@ use Rattle.frames.proofs.Lists.{put-put, put-front}
 use Rattle.frames.proofs.Built.{too-long, no-room, written}
 use Rattle.frames.proofs.udp.make_udp_payload.Statement.{statement}
 use Rattle.frames.proofs.udp.make_udp_payload.Tie as tie
-use Rattle.frames.proofs.udp.make_udp_payload.Reads as reads
-use Rattle.frames.proofs.udp.make_udp_payload.Lts as lts
-use Rattle.frames.proofs.udp.udp_header.Reads as udp-header-reads
-use Rattle.frames.proofs.write.put.Reads as put-reads
 
--- src/udp.rt:23:9
 returns : tie.Need-returns
 returns c = too-long _ _ _ _ _ _ (c .if1 .taken)
 
--- src/udp.rt:25:20
 add-if2 : tie.Need-add-if2
 add-if2 c = search needs
 
--- src/udp.rt:26:32
 add-t10 : tie.Need-add-t10
 add-t10 c = search needs
 
--- src/udp.rt:26:9
 returns-2 : tie.Need-returns-2
 returns-2 c = no-room _ _ _ _ _ _ (c .before .if1 .left) (c .if2 .taken)
 
--- src/udp.rt:28:50
 add-udp-header : tie.Need-add-udp-header
 add-udp-header c = search needs
 
--- src/udp.rt:28:49
 cast-udp-header : tie.Need-cast-udp-header
 cast-udp-header c = search needs
 
--- src/udp.rt:28:18
 udp-header-requires : tie.Need-udp-header-requires
 udp-header-requires c κs = search needs
 
--- src/udp.rt:29:17
 slice-aggregate-put : tie.Need-slice-aggregate-put
 slice-aggregate-put c = search needs
 
--- src/udp.rt:29:5
 put-requires : tie.Need-put-requires
 put-requires c κs = search needs
 
--- src/udp.rt:30:5
 put-requires-2 : tie.Need-put-requires-2
 put-requires-2 c κs = search needs
 
--- src/udp.rt:31:20
 add-t9 : tie.Need-add-t9
 add-t9 c = search needs
 
--- src/udp.rt:15:1
 same-length : tie.Need-same-length
 same-length c = search needs
 
--- src/udp.rt:15:1
 returns-3 : tie.Need-returns-3
 unfolding datagram
 returns-3 c =

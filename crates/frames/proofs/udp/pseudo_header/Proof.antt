@@ -1,53 +1,41 @@
+-- `udp::pseudo_header` meets its contract: byte by byte the literal is the definition.
 use native.Mathlib.Omega.{arith}
 use borrow.Author.Needs.{needs}
 use Rattle.frames.specs.Rfc768.{pseudoHeader}
 use Rattle.frames.proofs.Lists.{all-bytes}
 use Rattle.frames.proofs.udp.pseudo_header.Statement.{statement}
 use Rattle.frames.proofs.udp.pseudo_header.Tie as tie
-use Rattle.frames.proofs.udp.pseudo_header.Reads as reads
-use Rattle.frames.proofs.udp.pseudo_header.Lts as lts
 
--- src/udp.rt:39:9
 array-read-t9 : tie.Need-array-read-t9
 array-read-t9 c = search needs
 
--- src/udp.rt:40:9
 array-read-t12 : tie.Need-array-read-t12
 array-read-t12 c = search needs
 
--- src/udp.rt:41:9
 array-read-t15 : tie.Need-array-read-t15
 array-read-t15 c = search needs
 
--- src/udp.rt:42:9
 array-read-t18 : tie.Need-array-read-t18
 array-read-t18 c = search needs
 
--- src/udp.rt:43:9
 array-read-t21 : tie.Need-array-read-t21
 array-read-t21 c = search needs
 
--- src/udp.rt:44:9
 array-read-t24 : tie.Need-array-read-t24
 array-read-t24 c = search needs
 
--- src/udp.rt:45:9
 array-read-t27 : tie.Need-array-read-t27
 array-read-t27 c = search needs
 
--- src/udp.rt:46:9
 array-read-t30 : tie.Need-array-read-t30
 array-read-t30 c = search needs
 
--- src/udp.rt:49:9
 cast-t32 : tie.Need-cast-t32
 cast-t32 c = search needs
 
--- src/udp.rt:50:9
 cast-t34 : tie.Need-cast-t34
 cast-t34 c = search needs
 
--- src/udp.rt:35:1
 returns : tie.Need-returns
 unfolding pseudoHeader
 returns c = rw (all-bytes (c .args .t1) 4 (omega arith), all-bytes (c .args .t2) 4 (omega arith))

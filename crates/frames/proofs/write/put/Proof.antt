@@ -1,33 +1,25 @@
+-- `write::put` meets its contract: a copy into the rest of the buffer, said of the whole.
 use native.Mathlib.Omega.{arith}
 use borrow.Author.Needs.{needs}
 use Rattle.frames.proofs.Lists.{copied}
 use Rattle.frames.proofs.write.put.Statement.{statement}
 use Rattle.frames.proofs.write.put.Tie as tie
-use Rattle.frames.proofs.write.put.Reads as reads
-use Rattle.frames.proofs.write.put.Lts as lts
-use Rattle.bytes.proofs.copy.Reads as copy-reads
 
--- src/write.rt:12:22
 sub-copy : tie.Need-sub-copy
 sub-copy c = search needs
 
--- src/write.rt:12:22
 part-copy-start : tie.Need-part-copy-start
 part-copy-start c = search needs
 
--- src/write.rt:12:22
 part-copy-end : tie.Need-part-copy-end
 part-copy-end c = search needs
 
--- src/write.rt:12:5
 copy-requires : tie.Need-copy-requires
 copy-requires c κs = search needs
 
--- src/write.rt:8:1
 same-length : tie.Need-same-length
 same-length c = search needs
 
--- src/write.rt:8:1
 returns : tie.Need-returns
 returns c =
     let a = c .before .before .before .before .before .before .args in

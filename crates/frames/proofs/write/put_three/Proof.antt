@@ -1,3 +1,4 @@
+-- `write::put_three` meets its contract: pieces put one behind the other are one piece.
 use Prim.Native.Nat.{_+_}
 use mathlib.Core.Path.{ap, _∙_}
 use native.Mathlib.Omega.{arith}
@@ -7,39 +8,28 @@ use Rattle.frames.specs.Bytes.{put}
 use Rattle.frames.proofs.Lists.{put-put, put-behind}
 use Rattle.frames.proofs.write.put_three.Statement.{statement}
 use Rattle.frames.proofs.write.put_three.Tie as tie
-use Rattle.frames.proofs.write.put_three.Reads as reads
-use Rattle.frames.proofs.write.put_three.Lts as lts
-use Rattle.frames.proofs.write.put.Reads as put-reads
 
--- src/write.rt:21:5
 put-requires : tie.Need-put-requires
 put-requires c κs = search needs
 
--- src/write.rt:22:14
 add-put : tie.Need-add-put
 add-put c = search needs
 
--- src/write.rt:22:5
 put-requires-2 : tie.Need-put-requires-2
 put-requires-2 c κs = search needs
 
--- src/write.rt:23:14
 add-put-2 : tie.Need-add-put-2
 add-put-2 c = search needs
 
--- src/write.rt:23:14
 add-put-3 : tie.Need-add-put-3
 add-put-3 c = search needs
 
--- src/write.rt:23:5
 put-requires-3 : tie.Need-put-requires-3
 put-requires-3 c κs = search needs
 
--- src/write.rt:17:1
 same-length : tie.Need-same-length
 same-length c = search needs
 
--- src/write.rt:17:1
 returns : tie.Need-returns
 returns c =
     let a = c .before .before .before .before .before .before .before .before .before .before .before .before .before .before .before .before .args in

@@ -1,3 +1,4 @@
+-- `answers::lay_payload` is safe and ends: it counts up to the buffer's length, which no store changes.
 use Prim.Native.Nat.{_≤_, _<_, _-_}
 use mathlib.Core.Path.{_≡_}
 use lib.ListN.{length, length-set}
@@ -5,11 +6,6 @@ use native.Mathlib.Omega.{arith}
 use borrow.Author.Needs.{needs}
 use Rattle.replay.proofs.answers.lay_payload.Statement.{statement}
 use Rattle.replay.proofs.answers.lay_payload.Tie as tie
-use Rattle.replay.proofs.answers.lay_payload.Reads as reads
-use Rattle.replay.proofs.answers.lay_payload.Lts as lts
-use Rattle.frames.proofs.fields.u8be.Reads as u8be-reads
-use Rattle.replay.proofs.answers.chosen.Reads as chosen-reads
-use Rattle.replay.proofs.answers.rest.Reads as rest-reads
 
 abbrev Inv-loop : tie.InvT-loop
 Inv-loop line at seed out₀ value₀ i₀ out value i = (i ≤ length out) × (length out ≡ length out₀)
@@ -17,47 +13,36 @@ Inv-loop line at seed out₀ value₀ i₀ out value i = (i ≤ length out) × (
 abbrev μ-loop : tie.MeasureT-loop
 μ-loop line at seed out₀ value₀ i₀ out value i = length out - i
 
--- src/answers.rt:117:5
 loop-holds : tie.Need-loop-holds Inv-loop μ-loop
 loop-holds c = search needs
 
--- src/answers.rt:118:36
 rest-requires : tie.Need-rest-requires Inv-loop μ-loop
 rest-requires c κs = search needs
 
--- src/answers.rt:118:31
 u8be-requires : tie.Need-u8be-requires Inv-loop μ-loop
 u8be-requires c κs = search needs
 
--- src/answers.rt:118:18
 chosen-requires : tie.Need-chosen-requires Inv-loop μ-loop
 chosen-requires c κs = search needs
 
--- src/answers.rt:118:9
 slice-write-out : tie.Need-slice-write-out Inv-loop μ-loop
 slice-write-out c = search needs
 
--- src/answers.rt:119:18
 add-value : tie.Need-add-value Inv-loop μ-loop
 add-value c = search needs
 
--- src/answers.rt:120:9
 add-i : tie.Need-add-i Inv-loop μ-loop
 add-i c = search needs
 
--- src/answers.rt:117:5
 loop-less : tie.Need-loop-less Inv-loop μ-loop
 loop-less c = simp length-set (omega arith)
 
--- src/answers.rt:117:5
 loop-again : tie.Need-loop-again Inv-loop μ-loop
 loop-again c = simp length-set (omega arith)
 
--- src/answers.rt:114:1
 same-length : tie.Need-same-length Inv-loop μ-loop
 same-length c = search needs
 
--- src/answers.rt:114:1
 returns : tie.Need-returns Inv-loop μ-loop
 returns c = search needs
 

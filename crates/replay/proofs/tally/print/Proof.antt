@@ -1,15 +1,10 @@
+-- `tally::print` is safe and ends: it counts the rows.
 use Prim.Native.Nat.{_≤_, _<_, _-_}
 use mathlib.Core.Path.{_≡_}
 use lib.ListN.{length}
 use borrow.Author.Needs.{needs}
 use Rattle.replay.proofs.tally.print.Statement.{statement}
 use Rattle.replay.proofs.tally.print.Tie as tie
-use Rattle.replay.proofs.tally.print.Reads as reads
-use Rattle.replay.proofs.tally.print.Lts as lts
-use Rattle.replay.proofs.tally.print_count.Reads as print-count-reads
-use Rattle.replay.proofs.tally.print_row.Reads as print-row-reads
-use Rattle.replay.proofs.tally.total.Reads as total-reads
-use Rattle.std.proofs.num.wrapping_add_u64.Reads as wrapping-add-u64-reads
 
 abbrev Inv-loop : tie.InvT-loop
 Inv-loop right wrong unread row₀ t8 t9 t10 t11 t12 t13 row = (1 ≤ row) × (row ≤ 9) × (length right ≡ 9) × (length wrong ≡ 9)
@@ -17,95 +12,72 @@ Inv-loop right wrong unread row₀ t8 t9 t10 t11 t12 t13 row = (1 ≤ row) × (r
 abbrev μ-loop : tie.MeasureT-loop
 μ-loop right wrong unread row₀ t8 t9 t10 t11 t12 t13 row = 9 - row
 
--- src/tally.rt:47:5
 loop-holds : tie.Need-loop-holds Inv-loop μ-loop
 loop-holds c = search needs
 
--- src/tally.rt:48:26
 mul-print-row : tie.Need-mul-print-row Inv-loop μ-loop
 mul-print-row c = search needs
 
--- src/tally.rt:48:26
 array-read-print-row : tie.Need-array-read-print-row Inv-loop μ-loop
 array-read-print-row c = search needs
 
--- src/tally.rt:48:39
 mul-print-row-2 : tie.Need-mul-print-row-2 Inv-loop μ-loop
 mul-print-row-2 c = search needs
 
--- src/tally.rt:48:39
 array-read-print-row-2 : tie.Need-array-read-print-row-2 Inv-loop μ-loop
 array-read-print-row-2 c = search needs
 
--- src/tally.rt:48:9
 print-row-requires : tie.Need-print-row-requires Inv-loop μ-loop
 print-row-requires c κs = search needs
 
--- src/tally.rt:47:9
 add-row : tie.Need-add-row Inv-loop μ-loop
 add-row c = search needs
 
--- src/tally.rt:47:5
 loop-less : tie.Need-loop-less Inv-loop μ-loop
 loop-less c = search needs
 
--- src/tally.rt:47:5
 loop-again : tie.Need-loop-again Inv-loop μ-loop
 loop-again c = search needs
 
--- src/tally.rt:50:9
 total-requires : tie.Need-total-requires Inv-loop μ-loop
 total-requires c κs = search needs
 
--- src/tally.rt:51:9
 total-requires-2 : tie.Need-total-requires-2 Inv-loop μ-loop
 total-requires-2 c κs = search needs
 
--- src/tally.rt:52:17
 slice-aggregate-print-count : tie.Need-slice-aggregate-print-count Inv-loop μ-loop
 slice-aggregate-print-count c = search needs
 
--- src/tally.rt:52:52
 slice-aggregate-print-count-2 : tie.Need-slice-aggregate-print-count-2 Inv-loop μ-loop
 slice-aggregate-print-count-2 c = search needs
 
--- src/tally.rt:52:5
 print-count-requires : tie.Need-print-count-requires Inv-loop μ-loop
 print-count-requires c κs = search needs
 
--- src/tally.rt:53:17
 slice-aggregate-print-count-3 : tie.Need-slice-aggregate-print-count-3 Inv-loop μ-loop
 slice-aggregate-print-count-3 c = search needs
 
--- src/tally.rt:53:22
 wrapping-add-u64-requires : tie.Need-wrapping-add-u64-requires Inv-loop μ-loop
 wrapping-add-u64-requires c κs = search needs
 
--- src/tally.rt:53:72
 slice-aggregate-print-count-4 : tie.Need-slice-aggregate-print-count-4 Inv-loop μ-loop
 slice-aggregate-print-count-4 c = search needs
 
--- src/tally.rt:53:5
 print-count-requires-2 : tie.Need-print-count-requires-2 Inv-loop μ-loop
 print-count-requires-2 c κs = search needs
 
--- src/tally.rt:54:17
 slice-aggregate-print-count-5 : tie.Need-slice-aggregate-print-count-5 Inv-loop μ-loop
 slice-aggregate-print-count-5 c = search needs
 
--- src/tally.rt:54:22
 wrapping-add-u64-requires-2 : tie.Need-wrapping-add-u64-requires-2 Inv-loop μ-loop
 wrapping-add-u64-requires-2 c κs = search needs
 
--- src/tally.rt:54:69
 slice-aggregate-print-count-6 : tie.Need-slice-aggregate-print-count-6 Inv-loop μ-loop
 slice-aggregate-print-count-6 c = search needs
 
--- src/tally.rt:54:5
 print-count-requires-3 : tie.Need-print-count-requires-3 Inv-loop μ-loop
 print-count-requires-3 c κs = search needs
 
--- src/tally.rt:43:1
 returns : tie.Need-returns Inv-loop μ-loop
 returns c = search needs
 

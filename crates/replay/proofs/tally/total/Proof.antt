@@ -1,12 +1,10 @@
+-- `tally::total` is safe and ends: it counts the rows.
 use Prim.Native.Nat.{_≤_, _<_, _-_}
 use mathlib.Core.Path.{_≡_}
 use lib.ListN.{length}
 use borrow.Author.Needs.{needs}
 use Rattle.replay.proofs.tally.total.Statement.{statement}
 use Rattle.replay.proofs.tally.total.Tie as tie
-use Rattle.replay.proofs.tally.total.Reads as reads
-use Rattle.replay.proofs.tally.total.Lts as lts
-use Rattle.std.proofs.num.wrapping_add_u64.Reads as wrapping-add-u64-reads
 
 abbrev Inv-loop : tie.InvT-loop
 Inv-loop counts sum₀ row₀ sum row = (1 ≤ row) × (row ≤ 9) × (length counts ≡ 9)
@@ -14,35 +12,27 @@ Inv-loop counts sum₀ row₀ sum row = (1 ≤ row) × (row ≤ 9) × (length co
 abbrev μ-loop : tie.MeasureT-loop
 μ-loop counts sum₀ row₀ sum row = 9 - row
 
--- src/tally.rt:59:5
 loop-holds : tie.Need-loop-holds Inv-loop μ-loop
 loop-holds c = search needs
 
--- src/tally.rt:60:47
 mul-wrapping-add-u64 : tie.Need-mul-wrapping-add-u64 Inv-loop μ-loop
 mul-wrapping-add-u64 c = search needs
 
--- src/tally.rt:60:47
 array-read-wrapping-add-u64 : tie.Need-array-read-wrapping-add-u64 Inv-loop μ-loop
 array-read-wrapping-add-u64 c = search needs
 
--- src/tally.rt:60:9
 wrapping-add-u64-requires : tie.Need-wrapping-add-u64-requires Inv-loop μ-loop
 wrapping-add-u64-requires c κs = search needs
 
--- src/tally.rt:59:9
 add-row : tie.Need-add-row Inv-loop μ-loop
 add-row c = search needs
 
--- src/tally.rt:59:5
 loop-less : tie.Need-loop-less Inv-loop μ-loop
 loop-less c = search needs
 
--- src/tally.rt:59:5
 loop-again : tie.Need-loop-again Inv-loop μ-loop
 loop-again c = search needs
 
--- src/tally.rt:57:1
 returns : tie.Need-returns Inv-loop μ-loop
 returns c = search needs
 

@@ -7,11 +7,9 @@ use borrow.Author.Needs.{needs}
 use Rattle.frames.proofs.answer.Guest.replied.Statement.{statement}
 use Rattle.frames.proofs.answer.Guest.replied.Tie as tie
 
--- src/answer.rt:51:21
 wrapping-add-u16-requires : tie.Need-wrapping-add-u16-requires
 wrapping-add-u16-requires c κs = search needs
 
--- src/answer.rt:43:5
 returns : tie.Need-returns
 returns c =
     let a = c .before .before .args in

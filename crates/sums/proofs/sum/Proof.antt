@@ -6,15 +6,10 @@ use borrow.Author.Needs.{needs}
 use native.Mathlib.Nat.{le-of-eq}
 use lib.ListN.{length, drop, length-drop}
 use lib.Seq.{take-all}
-use Rattle.frames.specs.Rfc1071.{total, fold}
-use Rattle.frames.proofs.SumLaws.{fold-piece}
-use Rattle.frames.proofs.sums.sum.Statement.{statement}
-use Rattle.frames.proofs.sums.sum.Tie as tie
-use Rattle.frames.proofs.sums.sum.Reads as reads
-use Rattle.frames.proofs.sums.sum.Lts as lts
-use Rattle.frames.proofs.sums.folded.Reads as folded-reads
-use Rattle.frames.proofs.sums.widened.Reads as widened-reads
-use Rattle.frames.proofs.sums.words_total.Reads as words-total-reads
+use Rattle.sums.specs.Rfc1071.{total, fold}
+use Rattle.sums.proofs.Laws.{fold-piece}
+use Rattle.sums.proofs.sum.Statement.{statement}
+use Rattle.sums.proofs.sum.Tie as tie
 
 abbrev Inv-loop : tie.InvT-loop
 Inv-loop start input running₀ at₀ running at = (at ≤ length input) × (fold (running + total (drop at input)) ≡ fold (start + total input))
@@ -22,51 +17,39 @@ Inv-loop start input running₀ at₀ running at = (at ≤ length input) × (fol
 abbrev μ-loop : tie.MeasureT-loop
 μ-loop start input running₀ at₀ running at = length input - at
 
--- src/sums.rt:25:5
 loop-holds : tie.Need-loop-holds Inv-loop μ-loop
 loop-holds c = search needs
 
--- src/sums.rt:25:19
 sub-loop : tie.Need-sub-loop Inv-loop μ-loop
 sub-loop c = search needs
 
--- src/sums.rt:26:19
 add-end : tie.Need-add-end Inv-loop μ-loop
 add-end c = search needs
 
--- src/sums.rt:27:26
 widened-requires : tie.Need-widened-requires Inv-loop μ-loop
 widened-requires c κs = search needs
 
--- src/sums.rt:27:57
 sub-words-total : tie.Need-sub-words-total Inv-loop μ-loop
 sub-words-total c = search needs
 
--- src/sums.rt:27:57
 part-words-total-start : tie.Need-part-words-total-start Inv-loop μ-loop
 part-words-total-start c = search needs
 
--- src/sums.rt:27:57
 part-words-total-end : tie.Need-part-words-total-end Inv-loop μ-loop
 part-words-total-end c = search needs
 
--- src/sums.rt:27:45
 words-total-requires : tie.Need-words-total-requires Inv-loop μ-loop
 words-total-requires c κs = search needs
 
--- src/sums.rt:27:26
 add-folded : tie.Need-add-folded Inv-loop μ-loop
 add-folded c = search needs
 
--- src/sums.rt:27:9
 folded-requires : tie.Need-folded-requires Inv-loop μ-loop
 folded-requires c κs = search needs
 
--- src/sums.rt:25:5
 loop-less : tie.Need-loop-less Inv-loop μ-loop
 loop-less c = search needs
 
--- src/sums.rt:25:5
 loop-again : tie.Need-loop-again Inv-loop μ-loop
 loop-again c =
     let l = c .before .before .before .before .before .loop in
@@ -78,35 +61,27 @@ loop-again c =
           ∙ l .inv .1,
     )
 
--- src/sums.rt:30:12
 widened-requires-2 : tie.Need-widened-requires-2 Inv-loop μ-loop
 widened-requires-2 c κs = search needs
 
--- src/sums.rt:30:43
 sub-words-total-2 : tie.Need-sub-words-total-2 Inv-loop μ-loop
 sub-words-total-2 c = search needs
 
--- src/sums.rt:30:43
 part-words-total-start-2 : tie.Need-part-words-total-start-2 Inv-loop μ-loop
 part-words-total-start-2 c = search needs
 
--- src/sums.rt:30:43
 part-words-total-end-2 : tie.Need-part-words-total-end-2 Inv-loop μ-loop
 part-words-total-end-2 c = search needs
 
--- src/sums.rt:30:31
 words-total-requires-2 : tie.Need-words-total-requires-2 Inv-loop μ-loop
 words-total-requires-2 c κs = search needs
 
--- src/sums.rt:30:12
 add-folded-2 : tie.Need-add-folded-2 Inv-loop μ-loop
 add-folded-2 c = search needs
 
--- src/sums.rt:30:5
 folded-requires-2 : tie.Need-folded-requires-2 Inv-loop μ-loop
 folded-requires-2 c κs = search needs
 
--- src/sums.rt:20:1
 returns : tie.Need-returns Inv-loop μ-loop
 returns c =
     let l = c .before .before .before .before .before .loop in

@@ -1,24 +1,19 @@
+-- `folded` meets its contract: two folds of a 32-bit total are the fold.
 use native.Mathlib.Omega.{arith}
 use borrow.Author.Needs.{needs}
-use Rattle.frames.proofs.SumLaws.{two-folds}
-use Rattle.frames.proofs.sums.folded.Statement.{statement}
-use Rattle.frames.proofs.sums.folded.Tie as tie
-use Rattle.frames.proofs.sums.folded.Reads as reads
-use Rattle.frames.proofs.sums.folded.Lts as lts
+use Rattle.sums.proofs.Laws.{two-folds}
+use Rattle.sums.proofs.folded.Statement.{statement}
+use Rattle.sums.proofs.folded.Tie as tie
 
--- src/sums.rt:54:16
 add-once : tie.Need-add-once
 add-once c = search needs
 
--- src/sums.rt:55:17
 add-twice : tie.Need-add-twice
 add-twice c = search needs
 
--- src/sums.rt:56:5
 cast-result : tie.Need-cast-result
 cast-result c = search needs
 
--- src/sums.rt:51:1
 returns : tie.Need-returns
 returns c = two-folds (c .args .total) (omega arith)
 

@@ -3,7 +3,7 @@
 ghost use mathlib.Core.Path.{_≡_};
 ghost use Prim.Native.Nat.{_+_, _*_, _≤_, _<_};
 ghost use lib.ListN.{length};
-ghost use Rattle.frames.specs.Rfc1071.{total, fold, checksum as Rfc1071·checksum};
+ghost use Rattle.sums.specs.Rfc1071.{total, fold, checksum as Rfc1071·checksum};
 
 // The largest piece whose words are summed with no fold. It is even, so a word never spans two.
 const PIECE: usize = 65536;

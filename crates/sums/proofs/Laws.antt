@@ -3,12 +3,11 @@ use Prim.Native.Nat.{ℕ, zero, suc, _+_, _*_, _-_, _/_, _%_, _≤_, _<_}
 use mathlib.Core.Path.{_≡_, refl, ap, sym, _∙_}
 use mathlib.Core.List.{List, [], _∷_, _++_, append-assoc}
 use native.Mathlib.Omega.{arith}
-use borrow.Author.Tests.{eq-eqb, ne-eqb}
 use native.Mathlib.Nat.{zero-add}
 use native.Mathlib.Numerals.{add-one, add-two}
 use lib.ListN.{length, take, drop, getD, drop-of-length-le, length-take, length-drop, take-append-drop}
 use lib.Seq.{drop-cons, drop-drop}
-use Rattle.frames.specs.Rfc1071.{words, sum, total, fold, checksum}
+use Rattle.sums.specs.Rfc1071.{words, sum, total, fold, checksum}
 
 -- "0 if S is 0"
 pub fold-zero : fold 0 ≡ 0
@@ -18,7 +17,8 @@ fold-zero = refl
 -- "else (S - 1) mod 65,535 + 1"
 pub fold-pos : (s : ℕ) → 0 < s → fold s ≡ (s - 1) % 65535 + 1
 unfolding fold
-fold-pos s h = simp (ne-eqb s 0 (omega arith))
+fold-pos zero h = absurd (omega arith)
+fold-pos (suc s) h = omega arith
 
 -- a fold that was already done changes nothing
 pub fold-fold : (a b : ℕ) → fold (fold a + b) ≡ fold (a + b)
