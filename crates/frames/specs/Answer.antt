@@ -25,9 +25,13 @@ paper (CutType place) = 7 ∷ place ∷ []
 abbrev pub fresh : (mac : List ℕ) → Guest
 fresh mac = record { mac = mac; id = 1; xid = 0 }
 
--- the record once its id is in a frame: the id "grows by 1 and goes from 65,535 to 0"
+-- the record with its id moved on by `ids`; it "goes from 65,535 to 0"
+abbrev pub movedOn : Guest → (ids : ℕ) → Guest
+movedOn g ids = record { mac = g .mac; id = (g .id + ids) % 65536; xid = g .xid }
+
+-- the record once its id is in a frame: the id "grows by 1"
 abbrev pub spent : Guest → Guest
-spent g = record { mac = g .mac; id = (g .id + 1) % 65536; xid = g .xid }
+spent g = movedOn g 1
 
 -- What is to come of a call that writes: the verdict's number and values, and the first bytes of the buffer; `[]` where it is left alone.
 pub record Writing : Type 0 where

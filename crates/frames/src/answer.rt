@@ -1,6 +1,6 @@
 // The record that the host keeps for each guest, and what one call answers.
 ghost use mathlib.Core.Path.{_≡_};
-ghost use Rattle.frames.specs.Answer.{fresh, spent};
+ghost use Rattle.frames.specs.Answer.{fresh, movedOn, spent};
 
 // One guest: its MAC, the id of the next IPv4 frame built for it, and its last DHCP xid.
 pub struct Guest {
@@ -38,29 +38,32 @@ impl Guest {
         }
     }
 
-    // A frame of `n` bytes is built. This is the one place that spends an id; it goes from 65,535
-    // to 0.
+    // A frame of `n` bytes is built, and carries the id.
     pub(crate) fn replied(self, n: usize) -> Answer
         ensures { λ r. ⌜ r ≡ record { verdict = Verdict.Reply n; guest = spent self } ⌝ }
     {
-        let mac = self.mac;
-        Answer {
-            verdict: Verdict::Reply(n),
-            guest: Guest {
-                mac: mac,
-                id: std::num::wrapping_add_u16(self.id, 1),
-                xid: self.xid,
-            },
-        }
+        self.answered(Verdict::Reply(n), 1)
     }
 
     // Nothing is built, and the record stays as it was.
     pub(crate) fn refused(self, verdict: Verdict) -> Answer
         ensures { λ r. ⌜ r ≡ record { verdict = verdict; guest = self } ⌝ }
     {
+        self.answered(verdict, 0)
+    }
+
+    // The one place that moves the id on, by `ids`; it goes from 65,535 to 0.
+    fn answered(self, verdict: Verdict, ids: u16) -> Answer
+        ensures { λ r. ⌜ r ≡ record { verdict = verdict; guest = movedOn self ids } ⌝ }
+    {
+        let mac = self.mac;
         Answer {
             verdict: verdict,
-            guest: self,
+            guest: Guest {
+                mac: mac,
+                id: std::num::wrapping_add_u16(self.id, ids),
+                xid: self.xid,
+            },
         }
     }
 }

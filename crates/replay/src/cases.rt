@@ -13,11 +13,10 @@ use frames::fields::u8be;
 use frames::fields::u16be;
 use frames::fields::u32be;
 
-// How the case came out, with the row of the tally that counts it.
-pub enum Judged {
-    Right(usize),
-    Wrong(usize),
-    Unknown,
+// How a line came out, and the row of the tally that counts it.
+pub struct Case {
+    pub row: usize,
+    pub agrees: bool,
 }
 
 const CHECKSUM: u8 = 1;
@@ -40,35 +39,37 @@ const WHOLE_FRAME: u8 = 8;
 // A line whose kind has the bit 0x80 set is spoiled: it is right to find it wrong.
 const SPOILED: u8 = 0x80;
 
-pub fn judge(line: &[u8]) -> Judged {
+pub fn judge(line: &[u8]) -> Case {
     let kind = u8be(line, 0);
     match kind % SPOILED {
-        CHECKSUM => as_judged(kind, 1, checksum(line)),
-        TWO_PIECES => as_judged(kind, 2, two_pieces(line)),
-        IP_FRAME => as_judged(
+        CHECKSUM => came_out(kind, checksum(line)),
+        TWO_PIECES => came_out(kind, two_pieces(line)),
+        IP_FRAME => came_out(
             kind,
-            3,
             builds(line, IP_FRAME, 18) && builds(line, IN_PLACE, 18),
         ),
-        UDP_PAYLOAD => as_judged(kind, 5, builds(line, UDP_PAYLOAD, 5)),
-        TCP_FRAME => as_judged(kind, 6, builds(line, TCP_FRAME, 30)),
-        CHECKSUM_BY_RULE => as_judged(kind, 7, checksum_by_rule(line)),
-        WHOLE_FRAME => as_judged(kind, 8, frame::sums_right(answers::rest(line, 1))),
-        _ => Judged::Unknown,
+        UDP_PAYLOAD => came_out(kind, builds(line, UDP_PAYLOAD, 5)),
+        TCP_FRAME => came_out(kind, builds(line, TCP_FRAME, 30)),
+        CHECKSUM_BY_RULE => came_out(kind, checksum_by_rule(line)),
+        WHOLE_FRAME => came_out(kind, frame::sums_right(answers::rest(line, 1))),
+        _ => Case {
+            row: tally::UNREAD_ROW,
+            agrees: false,
+        },
     }
 }
 
-fn as_judged(kind: u8, row: usize, right: bool) -> Judged {
+fn came_out(kind: u8, right: bool) -> Case {
     if SPOILED <= kind {
-        if right {
-            return Judged::Wrong(tally::SPOILED_ROW);
-        }
-        return Judged::Right(tally::SPOILED_ROW);
+        return Case {
+            row: tally::SPOILED_ROW,
+            agrees: !right,
+        };
     }
-    if right {
-        return Judged::Right(row);
+    Case {
+        row: kind as usize,
+        agrees: right,
     }
-    Judged::Wrong(row)
 }
 
 fn checksum(line: &[u8]) -> bool {

@@ -36,14 +36,11 @@ fn replay(text: &[u8], line: &mut [u8]) -> Tally {
 // A blank line or a comment is no case.
 fn judged(tally: Tally, whole: bool, line: &[u8]) -> Tally {
     if !whole {
-        return tally.with_unread();
+        return tally.counted(tally::UNREAD_ROW, false);
     }
     if line.len() == 0 {
         return tally;
     }
-    match cases::judge(line) {
-        cases::Judged::Right(row) => tally.with_right(row),
-        cases::Judged::Wrong(row) => tally.with_wrong(row),
-        cases::Judged::Unknown => tally.with_unread(),
-    }
+    let case = cases::judge(line);
+    tally.counted(case.row, case.agrees)
 }

@@ -7,7 +7,7 @@ use Rattle.replay.proofs.tally.total.Statement.{statement}
 use Rattle.replay.proofs.tally.total.Tie as tie
 
 abbrev Inv-loop : tie.InvT-loop
-Inv-loop counts sum₀ row₀ sum row = (1 ≤ row) × (row ≤ 9) × (length counts ≡ 9)
+Inv-loop counts sum₀ row₀ sum row = (row ≤ 9) × (length counts ≡ 9)
 
 abbrev μ-loop : tie.MeasureT-loop
 μ-loop counts sum₀ row₀ sum row = 9 - row
