@@ -5,7 +5,6 @@ use mathlib.Core.List.{List, _++_}
 use borrow.Author.Tests.{lt-ltb, le-ltb}
 use lib.ListN.{length, drop}
 use Rattle.frames.specs.declared.answer.Guest.{Guest}
-use Rattle.frames.specs.declared.answer.Answer.{Answer}
 use Rattle.frames.specs.declared.answer.Verdict.the-variants.{Reply, NoRoom, TooLong}
 use Rattle.frames.specs.Answer.{Wrote, Meets, building, spending, spent, paper}
 

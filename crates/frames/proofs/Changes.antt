@@ -9,7 +9,7 @@ use borrow.Author.Tests.{ltb-true, ltb-false, lt-ltb, le-ltb}
 use lib.ListN.{length, drop}
 use lib.Seq.{drop-append-seam}
 use lib.Dec.{ltb}
-use Rattle.frames.specs.Answer.{paper, Wrote, Meets, building, spending, spent}
+use Rattle.frames.specs.Answer.{paper, Wrote, Meets, building, spending}
 use Rattle.frames.specs.declared.answer.Guest.{Guest}
 use Rattle.frames.specs.declared.answer.Answer.{Answer}
 use Rattle.frames.specs.declared.answer.Verdict.{Verdict}

@@ -1,5 +1,5 @@
 -- How long a frame is, and where its parts lie: 14 bytes of Ethernet, 20 of IPv4, and the payload.
-use Prim.Native.Nat.{ℕ, _+_, _≤_}
+use Prim.Native.Nat.{ℕ, _+_}
 use mathlib.Core.Path.{_≡_, ap, sym, _∙_}
 use mathlib.Core.List.{List, _++_, append-assoc}
 use native.Mathlib.Omega.{arith}

@@ -7,3 +7,4 @@ pub mod OneAnswer
 pub mod Changes
 pub mod SumsRight
 pub mod ReadBack
+pub mod Addresses

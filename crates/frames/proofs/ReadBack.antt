@@ -1,10 +1,10 @@
 -- The fields of what is built, read from its bytes at their offsets, are the ones that were put in.
-use Prim.Native.Nat.{ℕ, _+_, _*_, _/_, _%_}
-use mathlib.Core.Path.{_≡_, refl, sym}
+use Prim.Native.Nat.{ℕ, _+_}
+use mathlib.Core.Path.{_≡_, refl}
 use mathlib.Core.List.{List, _++_}
 use native.Mathlib.Omega.{arith}
-use lib.ListN.{length, drop, length-append}
-use Rattle.frames.specs.Bytes.{u8At, u16At, u32At}
+use lib.ListN.{length, drop}
+use Rattle.frames.specs.Bytes.{u8At, u16At, u32At, bytesAt}
 use Rattle.frames.specs.Ethernet.{sourceMac, typeOf, body, ethernet}
 use Rattle.frames.specs.Network.{gatewayMac}
 use Rattle.frames.specs.Rfc768.{datagram}
@@ -89,3 +89,11 @@ unfolding tcpFrame
 tcp-frame-reads-back id ends seq ack flags d six four four′ =
     rw (drop-34 (ends .«dst_mac») (ends .«src_ip») (ends .«dst_ip») (segment ends seq ack flags d) id 6 six four four′)
     (segment-reads-back ends seq ack flags d)
+
+-- RFC 894: target MAC, the gateway's MAC, type IPv4
+pub ethernet-reads-back : (mac source target payload : List ℕ) (id protocol : ℕ) → length mac ≡ 6
+    → (bytesAt (ipFrame mac id protocol source target payload) 0 6 ≡ mac)
+    × (sourceMac (ipFrame mac id protocol source target payload) ≡ gatewayMac)
+    × (typeOf (ipFrame mac id protocol source target payload) ≡ 0x0800)
+unfolding ipFrame
+ethernet-reads-back mac source target payload id protocol six = (rw (all-bytes mac 6 six), rw (all-bytes mac 6 six), rw (all-bytes mac 6 six))

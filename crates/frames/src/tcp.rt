@@ -7,7 +7,6 @@ ghost use Rattle.frames.specs.Answer.{Meets};
 ghost use Rattle.frames.specs.Bytes.{put as Bytes·put};
 ghost use Rattle.frames.specs.Builders.{dataLimit, makeTcpFrame};
 ghost use Rattle.sums.specs.Rfc1071.{checksum as Rfc1071·checksum};
-ghost use Rattle.frames.specs.Rfc768.{pseudoHeader};
 ghost use Rattle.frames.specs.Rfc9293.{covered, segment, segmentHeader, summedHeader, options as Rfc9293·options};
 use crate::answer::Answer;
 use crate::answer::Guest;

@@ -1,6 +1,5 @@
 -- `answers::is_untouched` is safe and ends: it counts up to the slice's length.
-use Prim.Native.Nat.{_≤_, _<_, _-_}
-use mathlib.Core.Path.{_≡_}
+use Prim.Native.Nat.{_≤_, _-_}
 use lib.ListN.{length}
 use borrow.Author.Needs.{needs}
 use Rattle.replay.proofs.answers.is_untouched.Statement.{statement}

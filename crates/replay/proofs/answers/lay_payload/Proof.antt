@@ -1,5 +1,5 @@
 -- `answers::lay_payload` is safe and ends: it counts up to the buffer's length, which no store changes.
-use Prim.Native.Nat.{_≤_, _<_, _-_}
+use Prim.Native.Nat.{_≤_, _-_}
 use mathlib.Core.Path.{_≡_}
 use lib.ListN.{length, length-set}
 use native.Mathlib.Omega.{arith}

@@ -1,5 +1,5 @@
 -- `lines::decode` moves on by at least one character and stays within the text, and its bytes stay within the line's buffer.
-use Prim.Native.Nat.{_≤_, _<_, _-_}
+use Prim.Native.Nat.{_≤_, _-_}
 use mathlib.Core.Path.{_≡_}
 use lib.ListN.{length}
 use borrow.Author.Needs.{needs}
