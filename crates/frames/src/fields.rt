@@ -17,7 +17,7 @@ const IP_SRC: usize = 14 + 12;
 
 const IP_DST: usize = 14 + 16;
 
-pub fn u8be(buf: &[u8], at: usize) -> u8
+pub fn byte_at(buf: &[u8], at: usize) -> u8
     ensures { λ r. ⌜ r ≡ u8At (now (buf .entry)) at ⌝ }
 {
     if buf.len() <= at {
@@ -32,7 +32,7 @@ pub fn u16be(buf: &[u8], at: usize) -> u16
     if buf.len() <= at {
         return 0;
     }
-    (u8be(buf, at) as u16) * 256 + (u8be(buf, at + 1) as u16)
+    (byte_at(buf, at) as u16) * 256 + (byte_at(buf, at + 1) as u16)
 }
 
 pub fn u32be(buf: &[u8], at: usize) -> u32
@@ -51,12 +51,12 @@ pub fn mac_at(buf: &[u8], at: usize) -> [u8; 6]
         return [0, 0, 0, 0, 0, 0];
     }
     [
-        u8be(buf, at),
-        u8be(buf, at + 1),
-        u8be(buf, at + 2),
-        u8be(buf, at + 3),
-        u8be(buf, at + 4),
-        u8be(buf, at + 5),
+        byte_at(buf, at),
+        byte_at(buf, at + 1),
+        byte_at(buf, at + 2),
+        byte_at(buf, at + 3),
+        byte_at(buf, at + 4),
+        byte_at(buf, at + 5),
     ]
 }
 
@@ -67,10 +67,10 @@ pub fn address_at(buf: &[u8], at: usize) -> [u8; 4]
         return [0, 0, 0, 0];
     }
     [
-        u8be(buf, at),
-        u8be(buf, at + 1),
-        u8be(buf, at + 2),
-        u8be(buf, at + 3),
+        byte_at(buf, at),
+        byte_at(buf, at + 1),
+        byte_at(buf, at + 2),
+        byte_at(buf, at + 3),
     ]
 }
 
@@ -89,7 +89,7 @@ pub fn eth_type(frame: &[u8]) -> u16
 pub fn ip_proto(frame: &[u8]) -> u8
     ensures { λ r. ⌜ r ≡ protocolOf (body (now (frame .entry))) ⌝ }
 {
-    u8be(frame, IP_PROTO)
+    byte_at(frame, IP_PROTO)
 }
 
 pub fn ip_src(frame: &[u8]) -> [u8; 4]
@@ -108,5 +108,5 @@ pub fn ip_dst(frame: &[u8]) -> [u8; 4]
 pub fn ip_hlen(frame: &[u8]) -> usize
     ensures { λ r. ⌜ r ≡ headerLength (body (now (frame .entry))) ⌝ }
 {
-    ((u8be(frame, IP_HLEN) & 0x0f) as usize) << 2
+    ((byte_at(frame, IP_HLEN) & 0x0f) as usize) << 2
 }

@@ -1,6 +1,6 @@
 // What a line expects of a builder, and whether an answer is that.
 use frames::Verdict;
-use frames::fields::u8be;
+use frames::fields::byte_at;
 use frames::fields::u32be;
 ghost use mathlib.Core.Path.{_≡_};
 ghost use Prim.Native.Nat.{_≤_};
@@ -45,12 +45,12 @@ pub fn largest_room() -> [u8; 70400]
 pub fn read_expected(line: &[u8], at: usize) -> Expected
     requires { ⌜ at ≤ 64 ⌝ }
 {
-    let head_len = u8be(line, at + 14) as usize;
+    let head_len = byte_at(line, at + 14) as usize;
     Expected {
         room: u32be(line, at) as usize,
-        number: u8be(line, at + 4),
+        number: byte_at(line, at + 4),
         value: u32be(line, at + 5) as usize,
-        seed: u8be(line, at + 9),
+        seed: byte_at(line, at + 9),
         len: u32be(line, at + 10) as usize,
         head_at: at + 15,
         head_len: head_len,
@@ -119,7 +119,7 @@ pub fn lay_payload(line: &[u8], at: usize, seed: u8, out: &mut [u8]) {
     let mut value = (seed as u32) % 251;
     let mut i = 0;
     while i < out.len() {
-        out[i] = chosen(seed, u8be(rest(line, at), i), value);
+        out[i] = chosen(seed, byte_at(rest(line, at), i), value);
         value = (value % 251 + 17) % 251;
         i += 1;
     }

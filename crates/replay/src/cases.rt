@@ -8,8 +8,8 @@ use frames::Answer;
 use frames::Endpoints;
 use frames::Guest;
 use frames::fields::address_at;
+use frames::fields::byte_at;
 use frames::fields::mac_at;
-use frames::fields::u8be;
 use frames::fields::u16be;
 use frames::fields::u32be;
 
@@ -40,7 +40,7 @@ const WHOLE_FRAME: u8 = 8;
 const SPOILED: u8 = 0x80;
 
 pub fn judge(line: &[u8]) -> Case {
-    let kind = u8be(line, 0);
+    let kind = byte_at(line, 0);
     match kind % SPOILED {
         CHECKSUM => came_out(kind, checksum(line)),
         TWO_PIECES => came_out(kind, two_pieces(line)),
@@ -101,7 +101,7 @@ fn checksum_by_rule_in(line: &[u8], space: &mut [u8]) -> bool {
 }
 
 fn is_checksum_by_rule(line: &[u8], bytes: &mut [u8]) -> bool {
-    answers::lay_payload(line, 0, u8be(line, 3), bytes);
+    answers::lay_payload(line, 0, byte_at(line, 3), bytes);
     sums::checksum(bytes) == u16be(line, 1)
 }
 
@@ -165,7 +165,7 @@ fn ip_frame(line: &[u8], payload: &[u8], out: &mut [u8]) -> Answer {
         mac_at(line, 3),
         address_at(line, 9),
         address_at(line, 13),
-        u8be(line, 17),
+        byte_at(line, 17),
         payload,
         out,
     )
@@ -178,7 +178,7 @@ fn ip_frame_in_place(line: &[u8], payload: &[u8], out: &mut [u8]) -> Answer {
         mac_at(line, 3),
         address_at(line, 9),
         address_at(line, 13),
-        u8be(line, 17),
+        byte_at(line, 17),
         payload.len(),
         out,
     )
@@ -214,7 +214,7 @@ fn tcp_frame(line: &[u8], payload: &[u8], out: &mut [u8]) -> Answer {
         ends,
         u32be(line, 21),
         u32be(line, 25),
-        u8be(line, 29),
+        byte_at(line, 29),
         payload,
         out,
     )

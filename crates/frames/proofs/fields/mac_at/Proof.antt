@@ -9,42 +9,42 @@ use Rattle.frames.proofs.fields.mac_at.Tie as tie
 returns : tie.Need-returns
 returns c = sym (zeros-past-end (c .before .before .args .buf .now) 6 (c .before .before .args .at) (c .if1 .taken))
 
-u8be-requires : tie.Need-u8be-requires
-u8be-requires c κs = search needs
+byte-at-requires : tie.Need-byte-at-requires
+byte-at-requires c κs = search needs
 
-add-u8be : tie.Need-add-u8be
-add-u8be c = search needs
+add-byte-at : tie.Need-add-byte-at
+add-byte-at c = search needs
 
-u8be-requires-2 : tie.Need-u8be-requires-2
-u8be-requires-2 c κs = search needs
+byte-at-requires-2 : tie.Need-byte-at-requires-2
+byte-at-requires-2 c κs = search needs
 
-add-u8be-2 : tie.Need-add-u8be-2
-add-u8be-2 c = search needs
+add-byte-at-2 : tie.Need-add-byte-at-2
+add-byte-at-2 c = search needs
 
-u8be-requires-3 : tie.Need-u8be-requires-3
-u8be-requires-3 c κs = search needs
+byte-at-requires-3 : tie.Need-byte-at-requires-3
+byte-at-requires-3 c κs = search needs
 
-add-u8be-3 : tie.Need-add-u8be-3
-add-u8be-3 c = search needs
+add-byte-at-3 : tie.Need-add-byte-at-3
+add-byte-at-3 c = search needs
 
-u8be-requires-4 : tie.Need-u8be-requires-4
-u8be-requires-4 c κs = search needs
+byte-at-requires-4 : tie.Need-byte-at-requires-4
+byte-at-requires-4 c κs = search needs
 
-add-u8be-4 : tie.Need-add-u8be-4
-add-u8be-4 c = search needs
+add-byte-at-4 : tie.Need-add-byte-at-4
+add-byte-at-4 c = search needs
 
-u8be-requires-5 : tie.Need-u8be-requires-5
-u8be-requires-5 c κs = search needs
+byte-at-requires-5 : tie.Need-byte-at-requires-5
+byte-at-requires-5 c κs = search needs
 
-add-u8be-5 : tie.Need-add-u8be-5
-add-u8be-5 c = search needs
+add-byte-at-5 : tie.Need-add-byte-at-5
+add-byte-at-5 c = search needs
 
-u8be-requires-6 : tie.Need-u8be-requires-6
-u8be-requires-6 c κs = search needs
+byte-at-requires-6 : tie.Need-byte-at-requires-6
+byte-at-requires-6 c κs = search needs
 
 returns-2 : tie.Need-returns-2
 returns-2 c =
-    (λ i. (c .before .before .before .before .before .u8be .ensures) i ∷ (c .before .before .before .before .u8be2 .ensures) i ∷ (c .before .before .before .u8be3 .ensures) i ∷ (c .before .before .u8be4 .ensures) i ∷ (c .before .u8be5 .ensures) i ∷ (c .u8be6 .ensures) i ∷ [])
+    (λ i. (c .before .before .before .before .before .byte-at .ensures) i ∷ (c .before .before .before .before .byte-at2 .ensures) i ∷ (c .before .before .before .byte-at3 .ensures) i ∷ (c .before .before .byte-at4 .ensures) i ∷ (c .before .byte-at5 .ensures) i ∷ (c .byte-at6 .ensures) i ∷ [])
     ∙ sym (six-bytes (c .before .before .before .before .before .before .before .before .args .buf .now) (c .before .before .before .before .before .before .before .before .args .at))
 
 pub mac-at-spec : {M : Type 1} → statement M
@@ -52,15 +52,15 @@ mac-at-spec =
     tie.close
     (tie.spec
     returns
-    u8be-requires
-    add-u8be
-    u8be-requires-2
-    add-u8be-2
-    u8be-requires-3
-    add-u8be-3
-    u8be-requires-4
-    add-u8be-4
-    u8be-requires-5
-    add-u8be-5
-    u8be-requires-6
+    byte-at-requires
+    add-byte-at
+    byte-at-requires-2
+    add-byte-at-2
+    byte-at-requires-3
+    add-byte-at-3
+    byte-at-requires-4
+    add-byte-at-4
+    byte-at-requires-5
+    add-byte-at-5
+    byte-at-requires-6
     returns-2)

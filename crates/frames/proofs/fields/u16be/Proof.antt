@@ -12,8 +12,8 @@ returns c =
     let at = c .before .before .args .at in
     rw (past-end s at (omega arith), past-end s (at + 1) (omega arith))
 
-u8be-requires : tie.Need-u8be-requires
-u8be-requires c κs = search needs
+byte-at-requires : tie.Need-byte-at-requires
+byte-at-requires c κs = search needs
 
 cast-result : tie.Need-cast-result
 cast-result c = search needs
@@ -21,11 +21,11 @@ cast-result c = search needs
 mul-result : tie.Need-mul-result
 mul-result c = search needs
 
-add-u8be : tie.Need-add-u8be
-add-u8be c = search needs
+add-byte-at : tie.Need-add-byte-at
+add-byte-at c = search needs
 
-u8be-requires-2 : tie.Need-u8be-requires-2
-u8be-requires-2 c κs = search needs
+byte-at-requires-2 : tie.Need-byte-at-requires-2
+byte-at-requires-2 c κs = search needs
 
 cast-result-2 : tie.Need-cast-result-2
 cast-result-2 c = search needs
@@ -41,11 +41,11 @@ u16be-spec =
     tie.close
     (tie.spec
     returns
-    u8be-requires
+    byte-at-requires
     cast-result
     mul-result
-    add-u8be
-    u8be-requires-2
+    add-byte-at
+    byte-at-requires-2
     cast-result-2
     add-result
     returns-2)

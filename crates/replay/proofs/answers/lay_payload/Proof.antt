@@ -19,8 +19,8 @@ loop-holds c = search needs
 rest-requires : tie.Need-rest-requires Inv-loop μ-loop
 rest-requires c κs = search needs
 
-u8be-requires : tie.Need-u8be-requires Inv-loop μ-loop
-u8be-requires c κs = search needs
+byte-at-requires : tie.Need-byte-at-requires Inv-loop μ-loop
+byte-at-requires c κs = search needs
 
 chosen-requires : tie.Need-chosen-requires Inv-loop μ-loop
 chosen-requires c κs = search needs
@@ -54,7 +54,7 @@ lay-payload-spec =
     μ-loop
     loop-holds
     rest-requires
-    u8be-requires
+    byte-at-requires
     chosen-requires
     slice-write-out
     add-value

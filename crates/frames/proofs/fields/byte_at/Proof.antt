@@ -1,9 +1,9 @@
--- `fields::u8be` meets its contract: past the end a byte reads as 0.
+-- `fields::byte_at` meets its contract: past the end a byte reads as 0.
 use mathlib.Core.Path.{sym}
 use borrow.Author.Needs.{needs}
 use Rattle.frames.proofs.Lists.{past-end}
-use Rattle.frames.proofs.fields.u8be.Statement.{statement}
-use Rattle.frames.proofs.fields.u8be.Tie as tie
+use Rattle.frames.proofs.fields.byte_at.Statement.{statement}
+use Rattle.frames.proofs.fields.byte_at.Tie as tie
 
 returns : tie.Need-returns
 returns c = sym (past-end (c .before .args .buf .now) (c .before .args .at) (c .if1 .taken))
@@ -14,5 +14,5 @@ shared-slice-read-result c = search needs
 returns-2 : tie.Need-returns-2
 returns-2 c = search needs
 
-pub u8be-spec : {M : Type 1} → statement M
-u8be-spec = tie.close (tie.spec returns shared-slice-read-result returns-2)
+pub byte-at-spec : {M : Type 1} → statement M
+byte-at-spec = tie.close (tie.spec returns shared-slice-read-result returns-2)
