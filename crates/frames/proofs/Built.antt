@@ -28,10 +28,12 @@ module _ (guest : Guest) (limit len need room : ℕ) (image before : List ℕ) w
   unfolding spending
   refused-too-long h = record { wrote = too-long limit len need room image before h; guest = simp (lt-ltb limit len h) }
 
-  pub refused-no-room : len ≤ limit → room < need
-      → Meets (spending guest limit len need room image) before before (record { verdict = NoRoom need; guest = guest })
+  -- what is said is what is needed
+  pub refused-no-room : (said : ℕ) → said ≡ need → len ≤ limit → room < need
+      → Meets (spending guest limit len need room image) before before (record { verdict = NoRoom said; guest = guest })
   unfolding spending
-  refused-no-room h r = record { wrote = no-room limit len need room image before h r; guest = simp (le-ltb limit len h, lt-ltb room need r) }
+  refused-no-room said e h r =
+      rw e (record { wrote = no-room limit len need room image before h r; guest = simp (le-ltb limit len h, lt-ltb room need r) })
 
   pub built : (after : List ℕ) → len ≤ limit → need ≤ room → after ≡ image ++ drop (length image) before
       → Meets (spending guest limit len need room image) before after (record { verdict = Reply need; guest = spent guest })

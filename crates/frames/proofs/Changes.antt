@@ -1,5 +1,4 @@
--- What a call that builds answers and changes, case by case. Past the limit 6, else with too little room 5, and then neither the record nor one
--- byte changes; else 1, the first n bytes and, where an id is spent, the id by one.
+-- When a call that builds answers 6, 5 and 1, and what each changes: on 6 and 5 neither the record nor one byte.
 use Prim.Native.Nat.{ℕ, _+_, _%_, _≤_, _<_}
 use mathlib.Core.Path.{_≡_, refl, ap, _∙_}
 use mathlib.Core.Bool.{Bool, true, false}

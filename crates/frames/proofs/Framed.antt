@@ -8,8 +8,9 @@ use borrow.Author.Tests.{le-ltb}
 use Rattle.frames.specs.declared.answer.Guest.{Guest}
 use Rattle.frames.specs.declared.answer.Answer.{Answer}
 use Rattle.frames.specs.Answer.{Meets, spending, building}
-use Rattle.frames.specs.Bytes.{part, put}
-use Rattle.frames.specs.Ethernet.{ethernet}
+use Rattle.fields.specs.Bytes.{part}
+use Rattle.frames.specs.Buffer.{put}
+use Rattle.frames.specs.Rfc894.{ethernet}
 use Rattle.frames.specs.Network.{gatewayMac}
 use Rattle.frames.specs.Rfc791.{header, ipFrame}
 use Rattle.frames.proofs.Lists.{put-headers, length-put, part-put, drop-put}

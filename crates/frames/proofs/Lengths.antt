@@ -5,7 +5,7 @@ use mathlib.Core.List.{List, _++_, append-assoc}
 use native.Mathlib.Omega.{arith}
 use lib.ListN.{length, drop, length-append}
 use lib.Seq.{drop-at, drop-drop}
-use Rattle.frames.specs.Ethernet.{ethernet}
+use Rattle.frames.specs.Rfc894.{ethernet}
 use Rattle.frames.specs.Rfc768.{datagram}
 use Rattle.frames.specs.Rfc791.{header, headerWith, ipFrame}
 use Rattle.frames.specs.Network.{gatewayMac}

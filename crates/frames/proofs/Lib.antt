@@ -8,3 +8,4 @@ pub mod Changes
 pub mod SumsRight
 pub mod ReadBack
 pub mod Addresses
+pub mod InBuffer

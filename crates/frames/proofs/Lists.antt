@@ -3,27 +3,11 @@ use Prim.Native.Nat.{ℕ, zero, suc, _+_, _≤_, _-_}
 use mathlib.Core.Path.{_≡_, refl, ap, ap₂, sym, _∙_}
 use mathlib.Core.List.{List, [], _∷_, _++_, append-assoc, append-nil}
 use native.Mathlib.Omega.{arith}
-use lib.ListN.{length, replicate, getD, take, drop, length-append, length-take, length-drop, drop-of-length-le, take-append-drop, List·getD-eq-default}
-use native.Mathlib.Numerals.{towards-suc}
+use lib.ListN.{length, getD, take, drop, length-append, length-take, length-drop, drop-of-length-le, take-append-drop}
 use native.Mathlib.Nat.{add-assoc, zero-add, le-of-eq}
 use lib.Seq.{drop-cons, take-all, take-length, drop-drop, take-at, drop-at, length-take-le, take-append-seam}
-use Rattle.frames.specs.Bytes.{put, part, bytesAt, u8At}
-
--- past the end a byte reads as 0
-pub past-end : (s : List ℕ) (at : ℕ) → length s ≤ at → u8At s at ≡ 0
-past-end s at h = List·getD-eq-default s 0 h
-
--- bytes one by one, as code counts
-pub four-bytes : (s : List ℕ) (at : ℕ) → bytesAt s at 4 ≡ u8At s at ∷ u8At s (at + 1) ∷ u8At s (at + 2) ∷ u8At s (at + 3) ∷ []
-four-bytes s at = simp towards-suc
-
-pub six-bytes : (s : List ℕ) (at : ℕ) → bytesAt s at 6 ≡ u8At s at ∷ u8At s (at + 1) ∷ u8At s (at + 2) ∷ u8At s (at + 3) ∷ u8At s (at + 4) ∷ u8At s (at + 5) ∷ []
-six-bytes s at = simp towards-suc
-
--- past the end they are zeros
-pub zeros-past-end : (s : List ℕ) (n at : ℕ) → length s ≤ at → bytesAt s at n ≡ replicate n 0
-zeros-past-end s zero at h = refl
-zeros-past-end s (suc n) at h = ap₂ (λ (b : ℕ) (l : List ℕ). b ∷ l) (past-end s at h) (zeros-past-end s n (suc at) (omega arith))
+use Rattle.fields.specs.Bytes.{part, bytesAt}
+use Rattle.frames.specs.Buffer.{put}
 
 -- a part that lies within the list is its bytes, one by one
 pub part-bytes : (s : List ℕ) (n a : ℕ) → a + n ≤ length s → take n (drop a s) ≡ bytesAt s a n

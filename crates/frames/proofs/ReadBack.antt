@@ -4,12 +4,15 @@ use mathlib.Core.Path.{_≡_, refl}
 use mathlib.Core.List.{List, _++_}
 use native.Mathlib.Omega.{arith}
 use lib.ListN.{length, drop}
-use Rattle.frames.specs.Bytes.{u8At, u16At, u32At, bytesAt}
-use Rattle.frames.specs.Ethernet.{sourceMac, typeOf, body, ethernet}
+use Rattle.fields.specs.Rfc894.{targetMac, sourceMac, typeOf, body}
 use Rattle.frames.specs.Network.{gatewayMac}
 use Rattle.frames.specs.Rfc768.{datagram}
-use Rattle.frames.specs.Rfc791.{version, headerLength, serviceType, totalLength, identification, flagsAndOffset, timeToLive, protocolOf, sourceOf, targetOf, header, headerWith, ipFrame}
-use Rattle.frames.specs.Rfc9293.{dataOffset, window, options, segment, summedHeader, segmentHeader, tcpFrame}
+use Rattle.fields.specs.Rfc791.{version, headerLength, serviceType, totalLength, identification, flagsAndOffset, timeToLive, protocolOf, headerChecksum, sourceOf, targetOf}
+use Rattle.fields.specs.Rfc768 as Udp
+use Rattle.fields.specs.Rfc9293 as Tcp
+use Rattle.sums.specs.Rfc1071.{checksum}
+use Rattle.frames.specs.Rfc791.{header, headerWith, ipFrame}
+use Rattle.frames.specs.Rfc9293.{options, segment, summedHeader, segmentHeader, tcpFrame}
 use Rattle.frames.specs.declared.tcp.Endpoints.{Endpoints}
 use Rattle.frames.proofs.Lists.{all-bytes}
 use Rattle.frames.proofs.Lengths.{drop-14, drop-34}
@@ -22,9 +25,10 @@ pub record PacketOf (packet : List ℕ) (len id protocol : ℕ) (source target :
   pub service-0 : serviceType packet ≡ 0
   pub total : totalLength packet ≡ 20 + len
   pub id-is : identification packet ≡ id
-  pub whole : flagsAndOffset packet ≡ 0x4000
+  pub unfragmented : flagsAndOffset packet ≡ 0x4000
   pub hops-64 : timeToLive packet ≡ 64
   pub protocol-is : protocolOf packet ≡ protocol
+  pub checksum-is : headerChecksum packet ≡ checksum (headerWith 0 (20 + len) id protocol source target)
   pub source-is : sourceOf packet ≡ source
   pub target-is : targetOf packet ≡ target
 
@@ -39,9 +43,10 @@ module _ (source target : List ℕ) (four : length source ≡ 4) (four′ : leng
         service-0 = refl;
         total = omega arith;
         id-is = omega arith;
-        whole = refl;
+        unfragmented = refl;
         hops-64 = refl;
         protocol-is = refl;
+        checksum-is = omega arith;
         source-is = rw (all-bytes source 4 four);
         target-is = rw (all-bytes source 4 four, all-bytes target 4 four′);
       }
@@ -52,21 +57,28 @@ module _ (source target : List ℕ) (four : length source ≡ 4) (four′ : leng
   frame-reads-back mac payload id protocol six =
       rw (drop-14 mac source target payload id protocol six four four′) (packet-reads-back payload id protocol)
 
--- RFC 768: the length field is the datagram's length
-pub datagram-reads-back : (source target : ℕ) (d : List ℕ) → (u16At (datagram source target d) 0 ≡ source) × (u16At (datagram source target d) 2 ≡ target) × (u16At (datagram source target d) 4 ≡ length (datagram source target d))
+-- RFC 768, with document 01's checksum 0; the length field is the datagram's length
+pub record DatagramOf (d : List ℕ) (source target : ℕ) : Type 0 where
+  pub source-port : Udp.sourcePort d ≡ source
+  pub target-port : Udp.targetPort d ≡ target
+  pub length-is : Udp.lengthField d ≡ length d
+  pub checksum-0 : Udp.checksumField d ≡ 0
+
+pub datagram-reads-back : (source target : ℕ) (d : List ℕ) → DatagramOf (datagram source target d) source target
 unfolding datagram
-datagram-reads-back source target d = (omega arith, omega arith, omega arith)
+datagram-reads-back source target d =
+    record { source-port = omega arith; target-port = omega arith; length-is = omega arith; checksum-0 = refl }
 
 -- RFC 9293, section 3.1, with document 01's values
 pub record SegmentOf (s : List ℕ) (ends : Endpoints) (seq ack flags : ℕ) : Type 0 where
-  pub source-port : u16At s 0 ≡ ends .«src_port»
-  pub target-port : u16At s 2 ≡ ends .«dst_port»
-  pub sequence : u32At s 4 ≡ seq
-  pub acknowledgment : u32At s 8 ≡ ack
-  pub offset : dataOffset s ≡ 20 + length (options flags)
-  pub flags-are : u8At s 13 ≡ flags
-  pub window-is : window s ≡ 65535
-  pub urgent-0 : u16At s 18 ≡ 0
+  pub source-port : Tcp.sourcePort s ≡ ends .«src_port»
+  pub target-port : Tcp.targetPort s ≡ ends .«dst_port»
+  pub sequence : Tcp.sequenceNumber s ≡ seq
+  pub acknowledgment : Tcp.acknowledgmentNumber s ≡ ack
+  pub offset : Tcp.dataOffset s ≡ 20 + length (options flags)
+  pub flags-are : Tcp.controlBits s ≡ flags
+  pub window-is : Tcp.window s ≡ 65535
+  pub urgent-0 : Tcp.urgentPointer s ≡ 0
 
 pub segment-reads-back : (ends : Endpoints) (seq ack flags : ℕ) (d : List ℕ) → SegmentOf (segment ends seq ack flags d) ends seq ack flags
 unfolding segment summedHeader segmentHeader
@@ -92,8 +104,15 @@ tcp-frame-reads-back id ends seq ack flags d six four four′ =
 
 -- RFC 894: target MAC, the gateway's MAC, type IPv4
 pub ethernet-reads-back : (mac source target payload : List ℕ) (id protocol : ℕ) → length mac ≡ 6
-    → (bytesAt (ipFrame mac id protocol source target payload) 0 6 ≡ mac)
+    → (targetMac (ipFrame mac id protocol source target payload) ≡ mac)
     × (sourceMac (ipFrame mac id protocol source target payload) ≡ gatewayMac)
     × (typeOf (ipFrame mac id protocol source target payload) ≡ 0x0800)
 unfolding ipFrame
 ethernet-reads-back mac source target payload id protocol six = (rw (all-bytes mac 6 six), rw (all-bytes mac 6 six), rw (all-bytes mac 6 six))
+
+-- the IPv4 packet of a TCP frame is protocol 6's
+pub tcp-packet-reads-back : (id : ℕ) (ends : Endpoints) (seq ack flags : ℕ) (d : List ℕ) → length (ends .«dst_mac») ≡ 6 → length (ends .«src_ip») ≡ 4 → length (ends .«dst_ip») ≡ 4
+    → PacketOf (body (tcpFrame id ends seq ack flags d)) (length (segment ends seq ack flags d)) id 6 (ends .«src_ip») (ends .«dst_ip»)
+unfolding tcpFrame
+tcp-packet-reads-back id ends seq ack flags d six four four′ =
+    frame-reads-back (ends .«src_ip») (ends .«dst_ip») four four′ (ends .«dst_mac») (segment ends seq ack flags d) id 6 six

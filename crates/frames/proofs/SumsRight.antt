@@ -1,12 +1,11 @@
--- What is built sums right: the IPv4 header at 14 of every frame, and every TCP segment with its pseudo-header. A checksum field holding c adds c
--- to the sum of the words, and 65,535 less the fold of a sum, added to that sum, folds to 65,535.
+-- What is built sums right. A checksum field holding c adds c to the sum of the words, and 65,535 less the fold of a sum, added to it, folds to 65,535.
 use Prim.Native.Nat.{ℕ, zero, suc, _+_, _-_, _/_, _%_}
 use mathlib.Core.Path.{_≡_, refl, ap, _∙_}
 use mathlib.Core.List.{List, _++_, append-assoc}
 use native.Mathlib.Omega.{arith}
 use lib.ListN.{length, drop, length-append}
 use lib.Seq.{take-at}
-use Rattle.frames.specs.Bytes.{part}
+use Rattle.fields.specs.Bytes.{part}
 use Rattle.sums.specs.Rfc1071.{words, sum, total, fold, checksum, SumsRight}
 use Rattle.frames.specs.Rfc768.{pseudoHeader}
 use Rattle.frames.specs.Rfc791.{headerWith, header, ipFrame}
@@ -102,3 +101,11 @@ unfolding tcpFrame
 frame-segment-sums-right id ends seq ack flags body six four four′ =
     rw (drop-34 (ends .«dst_mac») (ends .«src_ip») (ends .«dst_ip») (segment ends seq ack flags body) id 6 six four four′)
     (segment-sums-right ends seq ack flags body four four′)
+
+-- the IPv4 header of a TCP frame
+pub tcp-frame-header-sums-right : (id : ℕ) (ends : Endpoints) (seq ack flags : ℕ) (body : List ℕ)
+    → length (ends .«dst_mac») ≡ 6 → length (ends .«src_ip») ≡ 4 → length (ends .«dst_ip») ≡ 4
+    → SumsRight (part (tcpFrame id ends seq ack flags body) 14 20)
+unfolding tcpFrame
+tcp-frame-header-sums-right id ends seq ack flags body six four four′ =
+    frame-header-sums-right (ends .«src_ip») (ends .«dst_ip») four four′ (ends .«dst_mac») (segment ends seq ack flags body) id 6 six

@@ -3,7 +3,7 @@ use Prim.Native.Nat.{ℕ, _+_}
 use mathlib.Core.List.{List}
 use lib.ListN.{length}
 use Rattle.frames.specs.Answer.{Writing, Outcome, building, spending}
-use Rattle.frames.specs.Bytes.{part}
+use Rattle.fields.specs.Bytes.{part}
 use Rattle.frames.specs.Rfc768.{datagram}
 use Rattle.frames.specs.Rfc791.{ipFrame}
 use Rattle.frames.specs.Pick.{pick}

@@ -1,6 +1,6 @@
 pub mod Pick
-pub mod Bytes
-pub mod Ethernet
+pub mod Buffer
+pub mod Rfc894
 pub mod Rfc791
 pub mod Rfc768
 pub mod Rfc9293

@@ -2,7 +2,7 @@
 use Prim.Native.Nat.{ℕ, _+_}
 use mathlib.Core.List.{List, [], _∷_, _++_}
 use lib.ListN.{length}
-use Rattle.frames.specs.Bytes.{be16}
+use Rattle.fields.specs.Bytes.{be16}
 
 -- "Fields": ports, the length of header and data, and the checksum 0, which says that there is none
 abbrev pub datagramHeader : (source target len : ℕ) → List ℕ

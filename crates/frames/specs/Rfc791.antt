@@ -1,62 +1,28 @@
--- IPv4: RFC 791, section 3.1, and the frame around a payload.
-use Prim.Native.Nat.{ℕ, _+_, _*_, _/_, _%_}
+-- IPv4: the header of RFC 791, section 3.1, with document 01's values, and the frame around a payload.
+use Prim.Native.Nat.{ℕ, _+_}
 use mathlib.Core.List.{List, [], _∷_, _++_}
 use lib.ListN.{length}
-use Rattle.frames.specs.Bytes.{be16, u8At, u16At, bytesAt}
+use Rattle.fields.specs.Bytes.{be16}
 use Rattle.sums.specs.Rfc1071.{checksum}
-use Rattle.frames.specs.Ethernet.{ethernet}
+use Rattle.frames.specs.Rfc894.{ethernet}
 use Rattle.frames.specs.Network.{gatewayMac}
 
--- the header without options, with `sum` in the checksum field
-unfoldable pub headerWith : (sum total id protocol : ℕ) (source target : List ℕ) → List ℕ
-headerWith sum total id protocol source target =
+-- the header without options, with `csum` in the checksum field
+unfoldable pub headerWith : (csum total id protocol : ℕ) (source target : List ℕ) → List ℕ
+headerWith csum total id protocol source target =
     (0x45 ∷ 0 ∷ [])  -- version 4, header length 5 words of 32 bits; type of service 0
     ++ be16 total  -- total length, header included
     ++ be16 id  -- identification
-    ++ be16 0x4000  -- flags: don't fragment; fragment offset 0
-    ++ (64 ∷ protocol ∷ [])  -- time to live; protocol
-    ++ be16 sum  -- header checksum
-    ++ source
-    ++ target
+    ++ be16 0x4000  -- flags: don't fragment; fragment offset 0 (document 01)
+    ++ (64 ∷ protocol ∷ [])  -- time to live (document 01); protocol
+    ++ be16 csum  -- header checksum
+    ++ source  -- source address
+    ++ target  -- destination address
 
 -- "For purposes of computing the checksum, the value of the checksum field is zero."
 unfoldable pub header : (total id protocol : ℕ) (source target : List ℕ) → List ℕ
 header total id protocol source target =
     headerWith (checksum (headerWith 0 total id protocol source target)) total id protocol source target
-
--- the fields of a packet, at their offsets
-abbrev pub version : List ℕ → ℕ
-version packet = u8At packet 0 / 16
-
-abbrev pub headerLength : List ℕ → ℕ
-headerLength packet = u8At packet 0 % 16 * 4
-
-abbrev pub serviceType : List ℕ → ℕ
-serviceType packet = u8At packet 1
-
-abbrev pub totalLength : List ℕ → ℕ
-totalLength packet = u16At packet 2
-
-abbrev pub identification : List ℕ → ℕ
-identification packet = u16At packet 4
-
-abbrev pub flagsAndOffset : List ℕ → ℕ
-flagsAndOffset packet = u16At packet 6
-
-abbrev pub timeToLive : List ℕ → ℕ
-timeToLive packet = u8At packet 8
-
-abbrev pub protocolOf : List ℕ → ℕ
-protocolOf packet = u8At packet 9
-
-abbrev pub headerChecksum : List ℕ → ℕ
-headerChecksum packet = u16At packet 10
-
-abbrev pub sourceOf : List ℕ → List ℕ
-sourceOf packet = bytesAt packet 12 4
-
-abbrev pub targetOf : List ℕ → List ℕ
-targetOf packet = bytesAt packet 16 4
 
 -- a payload in its IPv4 packet, in its Ethernet frame from the gateway
 unfoldable pub ipFrame : (mac : List ℕ) (id protocol : ℕ) (source target payload : List ℕ) → List ℕ

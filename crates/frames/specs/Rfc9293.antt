@@ -1,11 +1,11 @@
--- TCP: RFC 9293, section 3.1.
+-- TCP: the segment of RFC 9293, section 3.1, with document 01's values, and its frame.
 use Prim.Native.Nat.{ℕ, _+_, _*_, _/_, _%_}
 use mathlib.Core.List.{List, [], _∷_, _++_}
 use lib.ListN.{length}
 use lib.Dec.{eqb}
 use mathlib.Core.Bool.{Bool}
 use Rattle.frames.specs.Pick.{pick}
-use Rattle.frames.specs.Bytes.{be16, be32, u8At, u16At}
+use Rattle.fields.specs.Bytes.{be16, be32}
 use Rattle.sums.specs.Rfc1071.{checksum}
 use Rattle.frames.specs.Rfc768.{pseudoHeader}
 use Rattle.frames.specs.Rfc791.{ipFrame}
@@ -15,31 +15,24 @@ use Rattle.frames.specs.declared.tcp.Endpoints.{Endpoints}
 abbrev pub synSet : (flags : ℕ) → Bool
 synSet flags = eqb (flags / 2 % 2) 1
 
--- "Where bit 0x02 of the flags is set, eight option bytes follow": a largest segment of 1,460, a pad, a window shift of 7
+-- "Where bit 0x02 of the flags is set, eight option bytes follow": a largest segment of 1,460, a no-operation, a window shift of 7
 abbrev pub synOptions : List ℕ
 synOptions = 0x02 ∷ 0x04 ∷ 0x05 ∷ 0xb4 ∷ 0x01 ∷ 0x03 ∷ 0x03 ∷ 0x07 ∷ []
 
 unfoldable pub options : (flags : ℕ) → List ℕ
 options flags = pick (synSet flags) synOptions []
 
--- the header up to its options, with `sum` in the checksum field
-unfoldable pub segmentHeader : (sum source target seq ack flags : ℕ) → List ℕ
-segmentHeader sum source target seq ack flags =
-    be16 source
-    ++ be16 target
+-- the header up to its options, with `csum` in the checksum field
+unfoldable pub segmentHeader : (csum source target seq ack flags : ℕ) → List ℕ
+segmentHeader csum source target seq ack flags =
+    be16 source  -- source port
+    ++ be16 target  -- destination port
     ++ be32 seq  -- sequence number
     ++ be32 ack  -- acknowledgment number
     ++ ((20 + length (options flags)) / 4 * 16 ∷ flags ∷ [])  -- data offset, in words of 32 bits, in the high four bits; control bits
-    ++ be16 65535  -- window
-    ++ be16 sum  -- checksum
+    ++ be16 65535  -- window (document 01)
+    ++ be16 csum  -- checksum
     ++ be16 0  -- urgent pointer
-
--- the fields of a segment, at their offsets
-abbrev pub dataOffset : List ℕ → ℕ
-dataOffset segment = u8At segment 12 / 16 * 4
-
-abbrev pub window : List ℕ → ℕ
-window segment = u16At segment 14
 
 -- what the checksum covers: the pseudo-header, then the segment
 unfoldable pub covered : (from to : List ℕ) (segment : List ℕ) → List ℕ

@@ -4,7 +4,7 @@ ghost use Prim.Native.Nat.{_≤_};
 ghost use lib.ListN.{length};
 ghost use Rattle.frames.specs.Answer.{Meets};
 ghost use Rattle.frames.specs.Builders.{makeIpFrame, makeIpFrameInPlace};
-ghost use Rattle.frames.specs.Ethernet.{ethernet};
+ghost use Rattle.frames.specs.Rfc894.{ethernet};
 ghost use Rattle.frames.specs.Network.{gatewayMac};
 ghost use Rattle.frames.specs.Rfc791.{headerWith, header as Rfc791·header};
 use crate::answer::Answer;
@@ -14,8 +14,11 @@ use crate::network::GATEWAY_MAC;
 use crate::write::put;
 use sums::checksum;
 
-// The Ethernet and the IPv4 header together: a payload lies behind them.
-const PAYLOAD_AT: usize = 34;
+const HEADER_AT: usize = 14;
+
+const HEADER: usize = 20;
+
+const PAYLOAD_AT: usize = HEADER_AT + HEADER;
 
 const PAYLOAD_LIMIT: usize = 65515;
 
@@ -65,9 +68,9 @@ pub fn make_ip_frame_in_place(
         return guest.refused(Verdict::NoRoom(PAYLOAD_AT + len));
     }
     let ethernet = ethernet_header(dst_mac);
-    let ip = header(20 + len, guest.id, proto, src_ip, dst_ip);
+    let ip = header(HEADER + len, guest.id, proto, src_ip, dst_ip);
     put(out, 0, &ethernet);
-    put(out, 14, &ip);
+    put(out, HEADER_AT, &ip);
     guest.replied(PAYLOAD_AT + len)
 }
 
@@ -101,14 +104,14 @@ fn header(total: usize, id: u16, proto: u8, src_ip: [u8; 4], dst_ip: [u8; 4]) ->
 }
 
 fn header_with(
-    sum: u16,
+    csum: u16,
     total: u16,
     id: u16,
     proto: u8,
     src_ip: [u8; 4],
     dst_ip: [u8; 4],
 ) -> [u8; 20]
-    ensures { λ r. ⌜ r ≡ headerWith sum total id proto «src_ip» «dst_ip» ⌝ }
+    ensures { λ r. ⌜ r ≡ headerWith csum total id proto «src_ip» «dst_ip» ⌝ }
 {
     [
         0x45,
@@ -121,8 +124,8 @@ fn header_with(
         0x00,
         64,
         proto,
-        (sum / 256) as u8,
-        (sum % 256) as u8,
+        (csum / 256) as u8,
+        (csum % 256) as u8,
         src_ip[0],
         src_ip[1],
         src_ip[2],

@@ -1,7 +1,6 @@
-// Ethernet, IPv4, UDP and TCP on the wire: the record of a guest, the answers of a call, field
-// readers and the three builders. No function here relies on checks by its caller.
+// Ethernet, IPv4, UDP and TCP on the wire: the record of a guest, the answers of a call and the
+// three builders. No function here relies on checks by its caller.
 mod answer;
-pub mod fields;
 mod ipv4;
 mod network;
 mod tcp;

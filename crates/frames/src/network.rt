@@ -12,7 +12,6 @@ pub struct Network {
 
 pub const GATEWAY_MAC: [u8; 6] = [0x52, 0x54, 0x00, 0x00, 0x00, 0x01];
 
-// Document 01's network.
 const NETWORK: Network = Network {
     gateway: [10, 0, 2, 2],
     guest: [10, 0, 2, 15],

@@ -4,7 +4,7 @@ ghost use mathlib.Core.List.{_++_};
 ghost use Prim.Native.Nat.{_+_, _%_, _≤_};
 ghost use lib.ListN.{length};
 ghost use Rattle.frames.specs.Answer.{Meets};
-ghost use Rattle.frames.specs.Bytes.{put as Bytes·put};
+ghost use Rattle.frames.specs.Buffer.{put as Buffer·put};
 ghost use Rattle.frames.specs.Builders.{dataLimit, makeTcpFrame};
 ghost use Rattle.sums.specs.Rfc1071.{checksum as Rfc1071·checksum};
 ghost use Rattle.frames.specs.Rfc9293.{covered, segment, segmentHeader, summedHeader, options as Rfc9293·options};
@@ -27,7 +27,7 @@ pub struct Endpoints {
 
 const IP_PROTO_TCP: u8 = 6;
 
-// The segment lies behind the Ethernet and the IPv4 header, and its options behind 20 bytes of its own.
+// The segment lies behind the Ethernet and the IPv4 header.
 const SEGMENT_AT: usize = 34;
 
 const HEADER: usize = 20;
@@ -36,7 +36,7 @@ const SYN: u8 = 0x02;
 
 const WINDOW: u16 = 65535;
 
-// A largest segment of 1,460 bytes, a pad, a window shift of 7.
+// A largest segment of 1,460 bytes, a no-operation, a window shift of 7.
 const SYN_OPTIONS: [u8; 8] = [0x02, 0x04, 0x05, 0xb4, 0x01, 0x03, 0x03, 0x07];
 
 // A frame around a segment with `data`. Where the SYN flag is set, its options stand before the data.
@@ -81,7 +81,7 @@ pub fn make_tcp_frame(
 fn put_segment(ends: Endpoints, seq: u32, ack: u32, flags: u8, data: &[u8], out: &mut [u8])
     requires { ⌜ length (now «data») ≤ dataLimit flags ⌝ }
     requires { ⌜ 54 + length (Rfc9293·options flags) + length (now «data») ≤ length (now out) ⌝ }
-    ensures { λ _. ⌜ now (out .exit) ≡ Bytes·put 34 (segment ends seq ack flags (now («data» .entry))) (now (out .entry)) ⌝ }
+    ensures { λ _. ⌜ now (out .exit) ≡ Buffer·put 34 (segment ends seq ack flags (now («data» .entry))) (now (out .entry)) ⌝ }
 {
     let all_options = SYN_OPTIONS;
     let option_len = options_length(flags);
@@ -106,8 +106,8 @@ fn summed_header(
     let src_ip = ends.src_ip;
     let dst_ip = ends.dst_ip;
     let blank = segment_header(0, ends.src_port, ends.dst_port, seq, ack, flags);
-    let sum = segment_checksum(src_ip, dst_ip, &blank, options, data);
-    segment_header(sum, ends.src_port, ends.dst_port, seq, ack, flags)
+    let csum = segment_checksum(src_ip, dst_ip, &blank, options, data);
+    segment_header(csum, ends.src_port, ends.dst_port, seq, ack, flags)
 }
 
 // The sum goes on from piece to piece, so that nothing is copied behind the pseudo-header.
@@ -127,8 +127,15 @@ fn segment_checksum(
     65535 - sum(sum(sum(sum(0, &pseudo), header), options), data)
 }
 
-fn segment_header(sum: u16, src_port: u16, dst_port: u16, seq: u32, ack: u32, flags: u8) -> [u8; 20]
-    ensures { λ r. ⌜ r ≡ segmentHeader sum «src_port» «dst_port» seq ack flags ⌝ }
+fn segment_header(
+    csum: u16,
+    src_port: u16,
+    dst_port: u16,
+    seq: u32,
+    ack: u32,
+    flags: u8,
+) -> [u8; 20]
+    ensures { λ r. ⌜ r ≡ segmentHeader csum «src_port» «dst_port» seq ack flags ⌝ }
 {
     let words = ((HEADER + options_length(flags)) / 4) as u8;
     [
@@ -148,8 +155,8 @@ fn segment_header(sum: u16, src_port: u16, dst_port: u16, seq: u32, ack: u32, fl
         flags,
         (WINDOW / 256) as u8,
         (WINDOW % 256) as u8,
-        (sum / 256) as u8,
-        (sum % 256) as u8,
+        (csum / 256) as u8,
+        (csum % 256) as u8,
         0,
         0,
     ]

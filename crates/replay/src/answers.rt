@@ -1,7 +1,7 @@
 // What a line expects of a builder, and whether an answer is that.
+use fields::byte_at;
+use fields::u32be;
 use frames::Verdict;
-use frames::fields::byte_at;
-use frames::fields::u32be;
 ghost use mathlib.Core.Path.{_≡_};
 ghost use Prim.Native.Nat.{_≤_};
 ghost use lib.ListN.{length};

@@ -4,14 +4,14 @@ use crate::answers;
 use crate::answers::Expected;
 use crate::frame;
 use crate::tally;
+use fields::address_at;
+use fields::byte_at;
+use fields::mac_at;
+use fields::u16be;
+use fields::u32be;
 use frames::Answer;
 use frames::Endpoints;
 use frames::Guest;
-use frames::fields::address_at;
-use frames::fields::byte_at;
-use frames::fields::mac_at;
-use frames::fields::u16be;
-use frames::fields::u32be;
 
 // How a line came out, and the row of the tally that counts it.
 pub struct Case {

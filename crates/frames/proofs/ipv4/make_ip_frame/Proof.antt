@@ -23,7 +23,7 @@ refused-requires-2 : tie.Need-refused-requires-2
 refused-requires-2 c κs = search needs
 
 returns-2 : tie.Need-returns-2
-returns-2 c = rw (c .refused2 .ensures) (refused-no-room _ _ _ _ _ _ _ (c .before .before .if1 .left) (c .before .if2 .taken))
+returns-2 c = rw (c .refused2 .ensures) (refused-no-room _ _ _ _ _ _ _ _ (omega arith) (c .before .before .if1 .left) (c .before .if2 .taken))
 
 put-requires : tie.Need-put-requires
 put-requires c κs = search needs

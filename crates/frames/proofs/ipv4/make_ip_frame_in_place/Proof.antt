@@ -4,7 +4,7 @@ use mathlib.Core.Path.{ap, ap₂, _∙_}
 use mathlib.Core.List.{List}
 use native.Mathlib.Omega.{arith}
 use borrow.Author.Needs.{needs}
-use Rattle.frames.specs.Bytes.{put}
+use Rattle.frames.specs.Buffer.{put}
 use Rattle.frames.proofs.Framed.{framed}
 use Rattle.frames.proofs.Built.{refused-too-long, refused-no-room, built}
 use Rattle.frames.proofs.ipv4.make_ip_frame_in_place.Statement.{statement}
@@ -26,7 +26,7 @@ refused-requires-2 : tie.Need-refused-requires-2
 refused-requires-2 c κs = search needs
 
 returns-2 : tie.Need-returns-2
-returns-2 c = rw (c .refused2 .ensures) (refused-no-room _ _ _ _ _ _ _ (c .before .before .if1 .left) (c .before .if2 .taken))
+returns-2 c = rw (c .refused2 .ensures) (refused-no-room _ _ _ _ _ _ _ _ (omega arith) (c .before .before .if1 .left) (c .before .if2 .taken))
 
 ethernet-header-requires : tie.Need-ethernet-header-requires
 ethernet-header-requires c κs = search needs

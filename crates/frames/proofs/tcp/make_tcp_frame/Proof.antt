@@ -39,10 +39,7 @@ refused-requires-2 : tie.Need-refused-requires-2
 refused-requires-2 c κs = search needs
 
 returns-2 : tie.Need-returns-2
-returns-2 c =
-    let a = c .before .before .before .before .before .before .before .args in
-    let need : 34 + (20 + c .before .before .before .before .options-length .result + length (a .data .now)) ≡ 54 + length (options (a .flags)) + length (a .data .now) = omega arith in
-    rw (c .refused2 .ensures, need) (refused-no-room _ _ _ _ _ _ _ (omega arith) (omega arith))
+returns-2 c = rw (c .refused2 .ensures) (refused-no-room _ _ _ _ _ _ _ _ (omega arith) (omega arith) (omega arith))
 
 put-segment-requires : tie.Need-put-segment-requires
 put-segment-requires c κs = search needs

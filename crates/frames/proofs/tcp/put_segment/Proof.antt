@@ -5,7 +5,7 @@ use mathlib.Core.List.{List, _++_}
 use native.Mathlib.Omega.{arith}
 use lib.ListN.{take}
 use lib.Seq.{length-take-le}
-use Rattle.frames.specs.Bytes.{put}
+use Rattle.frames.specs.Buffer.{put}
 use Rattle.frames.specs.Rfc9293.{synOptions, segment}
 use Rattle.frames.proofs.TcpLaws.{options-take}
 use borrow.Author.Needs.{needs}
@@ -19,7 +19,7 @@ array-share-prefix-all-options : tie.Need-array-share-prefix-all-options
 array-share-prefix-all-options c = search needs
 
 slice-aggregate-options : tie.Need-slice-aggregate-options
-slice-aggregate-options c = sym (length-take-le (c .before .options-length .result) synOptions (omega arith))
+slice-aggregate-options c = sym (length-take-le (c .before .options-length .result) _ (omega arith))
 
 summed-header-requires : tie.Need-summed-header-requires
 summed-header-requires c κs =

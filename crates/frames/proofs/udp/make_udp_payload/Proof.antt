@@ -5,7 +5,7 @@ use mathlib.Core.List.{List, _++_}
 use native.Mathlib.Omega.{arith}
 use borrow.Author.Needs.{needs}
 use lib.ListN.{length}
-use Rattle.frames.specs.Bytes.{put}
+use Rattle.frames.specs.Buffer.{put}
 use Rattle.frames.specs.Rfc768.{datagram, datagramHeader}
 use Rattle.frames.proofs.Lists.{put-put, put-front}
 use Rattle.frames.proofs.Built.{too-long, no-room, written}

@@ -4,7 +4,7 @@ use mathlib.Core.Path.{ap, _∙_}
 use native.Mathlib.Omega.{arith}
 use borrow.Author.Needs.{needs}
 use lib.ListN.{length}
-use Rattle.frames.specs.Bytes.{put}
+use Rattle.frames.specs.Buffer.{put}
 use Rattle.frames.proofs.Lists.{put-put, put-behind}
 use Rattle.frames.proofs.write.put_three.Statement.{statement}
 use Rattle.frames.proofs.write.put_three.Tie as tie

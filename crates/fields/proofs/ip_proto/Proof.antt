@@ -1,8 +1,8 @@
--- `fields::ip_proto` meets its contract: a packet's byte is the frame's, 14 further on.
+-- `ip_proto` meets its contract: a packet's byte is the frame's, 14 further on.
 use lib.Seq.{getD-drop}
 use borrow.Author.Needs.{needs}
-use Rattle.frames.proofs.fields.ip_proto.Statement.{statement}
-use Rattle.frames.proofs.fields.ip_proto.Tie as tie
+use Rattle.fields.proofs.ip_proto.Statement.{statement}
+use Rattle.fields.proofs.ip_proto.Tie as tie
 
 byte-at-requires : tie.Need-byte-at-requires
 byte-at-requires c κs = search needs

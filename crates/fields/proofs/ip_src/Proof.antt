@@ -1,8 +1,8 @@
--- `fields::ip_src` meets its contract: a packet's byte is the frame's, 14 further on.
+-- `ip_src` meets its contract: a packet's byte is the frame's, 14 further on.
 use lib.Seq.{getD-drop}
 use borrow.Author.Needs.{needs}
-use Rattle.frames.proofs.fields.ip_src.Statement.{statement}
-use Rattle.frames.proofs.fields.ip_src.Tie as tie
+use Rattle.fields.proofs.ip_src.Statement.{statement}
+use Rattle.fields.proofs.ip_src.Tie as tie
 
 address-at-requires : tie.Need-address-at-requires
 address-at-requires c κs = search needs

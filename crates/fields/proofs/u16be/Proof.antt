@@ -1,10 +1,10 @@
--- `fields::u16be` meets its contract: past the end both bytes read as 0.
+-- `u16be` meets its contract: past the end both bytes read as 0.
 use Prim.Native.Nat.{_+_}
 use native.Mathlib.Omega.{arith}
 use borrow.Author.Needs.{needs}
-use Rattle.frames.proofs.Lists.{past-end}
-use Rattle.frames.proofs.fields.u16be.Statement.{statement}
-use Rattle.frames.proofs.fields.u16be.Tie as tie
+use Rattle.fields.proofs.Reading.{past-end}
+use Rattle.fields.proofs.u16be.Statement.{statement}
+use Rattle.fields.proofs.u16be.Tie as tie
 
 returns : tie.Need-returns
 returns c =

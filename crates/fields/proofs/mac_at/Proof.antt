@@ -1,10 +1,10 @@
--- `fields::mac_at` meets its contract: six bytes one by one, or zeros past the end.
+-- `mac_at` meets its contract: six bytes one by one, or zeros past the end.
 use mathlib.Core.Path.{sym, _∙_}
 use mathlib.Core.List.{[], _∷_}
-use Rattle.frames.proofs.Lists.{six-bytes, zeros-past-end}
+use Rattle.fields.proofs.Reading.{six-bytes, zeros-past-end}
 use borrow.Author.Needs.{needs}
-use Rattle.frames.proofs.fields.mac_at.Statement.{statement}
-use Rattle.frames.proofs.fields.mac_at.Tie as tie
+use Rattle.fields.proofs.mac_at.Statement.{statement}
+use Rattle.fields.proofs.mac_at.Tie as tie
 
 returns : tie.Need-returns
 returns c = sym (zeros-past-end (c .before .before .args .buf .now) 6 (c .before .before .args .at) (c .if1 .taken))

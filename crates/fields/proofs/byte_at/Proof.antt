@@ -1,9 +1,9 @@
--- `fields::byte_at` meets its contract: past the end a byte reads as 0.
+-- `byte_at` meets its contract: past the end a byte reads as 0.
 use mathlib.Core.Path.{sym}
 use borrow.Author.Needs.{needs}
-use Rattle.frames.proofs.Lists.{past-end}
-use Rattle.frames.proofs.fields.byte_at.Statement.{statement}
-use Rattle.frames.proofs.fields.byte_at.Tie as tie
+use Rattle.fields.proofs.Reading.{past-end}
+use Rattle.fields.proofs.byte_at.Statement.{statement}
+use Rattle.fields.proofs.byte_at.Tie as tie
 
 returns : tie.Need-returns
 returns c = sym (past-end (c .before .args .buf .now) (c .before .args .at) (c .if1 .taken))

@@ -1,10 +1,10 @@
--- `fields::address_at` meets its contract: four bytes one by one, or zeros past the end.
+-- `address_at` meets its contract: four bytes one by one, or zeros past the end.
 use mathlib.Core.Path.{sym, _∙_}
 use mathlib.Core.List.{[], _∷_}
-use Rattle.frames.proofs.Lists.{four-bytes, zeros-past-end}
+use Rattle.fields.proofs.Reading.{four-bytes, zeros-past-end}
 use borrow.Author.Needs.{needs}
-use Rattle.frames.proofs.fields.address_at.Statement.{statement}
-use Rattle.frames.proofs.fields.address_at.Tie as tie
+use Rattle.fields.proofs.address_at.Statement.{statement}
+use Rattle.fields.proofs.address_at.Tie as tie
 
 returns : tie.Need-returns
 returns c = sym (zeros-past-end (c .before .before .args .buf .now) 4 (c .before .before .args .at) (c .if1 .taken))

@@ -1,10 +1,10 @@
--- `fields::ip_hlen` meets its contract: the mask leaves the low four bits, and the shift multiplies by four.
+-- `ip_hlen` meets its contract: the mask leaves the low four bits, and the shift multiplies by four.
 use native.Mathlib.Omega.{arith}
 use lib.Bits.{and-mask, mask-lt}
 use lib.Seq.{getD-drop}
 use borrow.Author.Needs.{needs}
-use Rattle.frames.proofs.fields.ip_hlen.Statement.{statement}
-use Rattle.frames.proofs.fields.ip_hlen.Tie as tie
+use Rattle.fields.proofs.ip_hlen.Statement.{statement}
+use Rattle.fields.proofs.ip_hlen.Tie as tie
 
 byte-at-requires : tie.Need-byte-at-requires
 byte-at-requires c κs = search needs

@@ -1,7 +1,7 @@
 -- Numbers on the wire. A value of the wire is a list of bytes; numbers are big-endian (RFC 791, appendix B).
 use Prim.Native.Nat.{ℕ, zero, suc, _+_, _*_, _/_, _%_}
 use mathlib.Core.List.{List, [], _∷_, _++_}
-use lib.ListN.{length, getD, take, drop}
+use lib.ListN.{getD, take, drop}
 
 -- a 16-bit number as two bytes
 abbrev pub be16 : ℕ → List ℕ
@@ -31,7 +31,3 @@ bytesAt s at (suc n) = u8At s at ∷ bytesAt s (suc at) n
 -- the `n` bytes from `at` on, as many as there are
 abbrev pub part : List ℕ → ℕ → ℕ → List ℕ
 part s at n = take n (drop at s)
-
--- a buffer once `s` is written into it from `at` on
-unfoldable pub put : ℕ → List ℕ → List ℕ → List ℕ
-put at s buffer = take at buffer ++ s ++ drop (at + length s) buffer

@@ -1,9 +1,9 @@
 // Field readers for frames of any length: a byte past the end reads as 0. Whoever has to tell a
 // short frame from zeros looks at its length first, as document 01's order of tests does.
 ghost use mathlib.Core.Path.{_≡_};
-ghost use Rattle.frames.specs.Bytes.{u8At, u16At, u32At, bytesAt};
-ghost use Rattle.frames.specs.Ethernet.{sourceMac, typeOf, body};
-ghost use Rattle.frames.specs.Rfc791.{headerLength, protocolOf, sourceOf, targetOf};
+ghost use Rattle.fields.specs.Bytes.{u8At, u16At, u32At, bytesAt};
+ghost use Rattle.fields.specs.Rfc894.{sourceMac, typeOf, body};
+ghost use Rattle.fields.specs.Rfc791.{headerLength, protocolOf, sourceOf, targetOf};
 
 const ETH_SRC: usize = 6;
 
