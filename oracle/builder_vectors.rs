@@ -63,7 +63,7 @@ fn checksums(list: &mut List) {
     }
     for len in LONG_SUMS {
         list.checksum_by_rule(len);
-        list.checksum_by_rule(len);
+        list.checksum_of_ones(len);
     }
 }
 

@@ -182,7 +182,13 @@ impl Room {
     }
 }
 
+/// The seed whose bytes are all 0xff: they make the largest sum.
+const ALL_ONES: u8 = 0xff;
+
 fn ruled_bytes(seed: u8, len: usize) -> Vec<u8> {
+    if seed == ALL_ONES {
+        return vec![0xff; len];
+    }
     (0..len)
         .map(|i| ((seed as usize + 17 * i) % 251) as u8)
         .collect()
@@ -310,6 +316,14 @@ impl List {
 
     pub fn checksum_by_rule(&mut self, len: usize) {
         let seed = self.draws.rule_seed();
+        self.checksum_from_seed(seed, len);
+    }
+
+    pub fn checksum_of_ones(&mut self, len: usize) {
+        self.checksum_from_seed(ALL_ONES, len);
+    }
+
+    fn checksum_from_seed(&mut self, seed: u8, len: usize) {
         let sum = SlirpBackend::checksum(&ruled_bytes(seed, len));
         self.line(7, None, &format!("07 {sum:04x} {seed:02x} {len:08x}"));
     }

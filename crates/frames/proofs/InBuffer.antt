@@ -27,20 +27,20 @@ pub record InBuffer (built before after : List ℕ) (n : ℕ) : Type 0 where
   pub rest : drop n after ≡ drop n before
 
 in-buffer : (limit len need room : ℕ) (image before after : List ℕ) (v : Verdict) (n : ℕ) → (need ≤ room → length image ≡ need)
-  → Wrote (building limit len need room image) before after v → paper v ≡ 1 ∷ n ∷ [] → InBuffer image before after n
+    → Wrote (building limit len need room image) before after v → paper v ≡ 1 ∷ n ∷ [] → InBuffer image before after n
 in-buffer limit len need room image before after v n e w p =
     let c = on-one limit len need room image before after v w n p in
     let k : n ≡ length image = c .2 ∙ sym (e (c .1)) in
     record {
       long = k;
       front = ap (take n) (c .3) ∙ take-at image _ n (sym k);
-      rest = ap (drop n) (c .3) ∙ drop-at image _ n (sym k) ∙ ap (λ (m : ℕ). drop m before) (sym k)
+      rest = ap (drop n) (c .3) ∙ drop-at image _ n (sym k) ∙ ap (λ (m : ℕ). drop m before) (sym k);
     }
 
 module _ (guest : Guest) (before after : List ℕ) (a : Answer) (n : ℕ) (one : paper (a .verdict) ≡ 1 ∷ n ∷ []) where
   module _ (mac source target : List ℕ) (protocol : ℕ) (six : length mac ≡ 6) (four : length source ≡ 4) (four′ : length target ≡ 4) where
     pub ip-frame-in-buffer : (payload : List ℕ) → Meets (makeIpFrame guest mac source target protocol payload (length before)) before after a
-      → InBuffer (ipFrame mac (guest .id) protocol source target payload) before after n
+        → InBuffer (ipFrame mac (guest .id) protocol source target payload) before after n
     unfolding spending
     ip-frame-in-buffer payload m =
         in-buffer 65515 (length payload) (34 + length payload) (length before) (ipFrame mac (guest .id) protocol source target payload) before after (a .verdict) n
@@ -48,12 +48,12 @@ module _ (guest : Guest) (before after : List ℕ) (a : Answer) (n : ℕ) (one :
 
     -- its IPv4 header, as it stands in the buffer
     pub header-in-buffer-sums-right : (payload : List ℕ) → Meets (makeIpFrame guest mac source target protocol payload (length before)) before after a
-      → SumsRight (part (take n after) 14 20)
+        → SumsRight (part (take n after) 14 20)
     header-in-buffer-sums-right payload m =
         rw (ip-frame-in-buffer payload m .front) (frame-header-sums-right source target four four′ mac payload (guest .id) protocol six)
 
     pub ip-frame-in-place-in-buffer : (len : ℕ) → Meets (makeIpFrameInPlace guest mac source target protocol len before) before after a
-      → InBuffer (ipFrame mac (guest .id) protocol source target (part before 34 len)) before after n
+        → InBuffer (ipFrame mac (guest .id) protocol source target (part before 34 len)) before after n
     unfolding spending
     ip-frame-in-place-in-buffer len m =
         in-buffer 65515 len (34 + len) (length before) (ipFrame mac (guest .id) protocol source target (part before 34 len)) before after (a .verdict) n
@@ -63,7 +63,7 @@ module _ (guest : Guest) (before after : List ℕ) (a : Answer) (n : ℕ) (one :
         (m .wrote) one
 
   module _ (ends : Endpoints) (seq ack flags : ℕ) (d : List ℕ) (six : length (ends .«dst_mac») ≡ 6) (four : length (ends .«src_ip») ≡ 4)
-    (four′ : length (ends .«dst_ip») ≡ 4) (m : Meets (makeTcpFrame guest ends seq ack flags d (length before)) before after a) where
+      (four′ : length (ends .«dst_ip») ≡ 4) (m : Meets (makeTcpFrame guest ends seq ack flags d (length before)) before after a) where
     pub tcp-frame-in-buffer : InBuffer (tcpFrame (guest .id) ends seq ack flags d) before after n
     unfolding spending
     tcp-frame-in-buffer =
@@ -75,13 +75,13 @@ module _ (guest : Guest) (before after : List ℕ) (a : Answer) (n : ℕ) (one :
     segment-in-buffer-sums-right = rw (tcp-frame-in-buffer .front) (frame-segment-sums-right (guest .id) ends seq ack flags d six four four′)
 
 pub datagram-in-buffer : (before after : List ℕ) (v : Verdict) (n source target : ℕ) (d : List ℕ) → paper v ≡ 1 ∷ n ∷ []
-  → Wrote (makeUdpPayload source target d (length before)) before after v → InBuffer (datagram source target d) before after n
+    → Wrote (makeUdpPayload source target d (length before)) before after v → InBuffer (datagram source target d) before after n
 datagram-in-buffer before after v n source target d one w =
     in-buffer 65527 (length d) (8 + length d) (length before) (datagram source target d) before after v n (λ h. length-datagram source target d) w one
 
 -- the bytes needed of 5 are the n of the same call with room, whatever the two buffers
 pub needed-is-n : (limit len need room room′ : ℕ) (image image′ before after before′ after′ : List ℕ) (v v′ : Verdict) (k n : ℕ)
-  → Wrote (building limit len need room image) before after v → paper v ≡ 5 ∷ k ∷ []
-  → Wrote (building limit len need room′ image′) before′ after′ v′ → paper v′ ≡ 1 ∷ n ∷ [] → k ≡ n
+    → Wrote (building limit len need room image) before after v → paper v ≡ 5 ∷ k ∷ []
+    → Wrote (building limit len need room′ image′) before′ after′ v′ → paper v′ ≡ 1 ∷ n ∷ [] → k ≡ n
 needed-is-n limit len need room room′ image image′ before after before′ after′ v v′ k n w five w′ one =
     on-five limit len need room image before after v w k five .2 ∙ sym (on-one limit len need room′ image′ before′ after′ v′ w′ n one .2)

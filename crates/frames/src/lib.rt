@@ -17,3 +17,4 @@ pub use network::Network;
 pub use tcp::Endpoints;
 pub use tcp::make_tcp_frame;
 pub use udp::make_udp_payload;
+pub use udp::pseudo_header;

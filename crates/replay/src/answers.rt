@@ -21,7 +21,8 @@ pub struct Expected {
 // The byte that every buffer is full of before a call.
 const UNTOUCHED: u8 = 0xa5;
 
-// The largest input, with a byte to spare. The contract gives only the length, as those below.
+// The largest input, with a byte to spare. Of this and the next two the contract gives only the
+// length: that is all their users need.
 pub fn longest_input() -> [u8; 393216]
     ensures { λ r. ⌜ 393216 ≡ length r ⌝ }
 {
@@ -29,10 +30,10 @@ pub fn longest_input() -> [u8; 393216]
 }
 
 // Room for the longest payload of a line.
-pub fn longest_payload() -> [u8; 131200]
-    ensures { λ r. ⌜ 131200 ≡ length r ⌝ }
+pub fn longest_payload() -> [u8; 300032]
+    ensures { λ r. ⌜ 300032 ≡ length r ⌝ }
 {
-    [0; 131200]
+    [0; 300032]
 }
 
 // The largest buffer of a line.
@@ -114,7 +115,8 @@ fn is_untouched(s: &[u8]) -> bool {
     true
 }
 
-// Fills `out` with a payload: by its rule, or where the seed is 0 with the line's bytes from `at` on.
+// Fills `out` with a payload: where the seed is 0 the line's bytes from `at` on, where it is 0xff that
+// byte alone, else byte i is (seed + 17 i) mod 251.
 pub fn lay_payload(line: &[u8], at: usize, seed: u8, out: &mut [u8]) {
     let mut value = (seed as u32) % 251;
     let mut i = 0;
@@ -128,6 +130,9 @@ pub fn lay_payload(line: &[u8], at: usize, seed: u8, out: &mut [u8]) {
 fn chosen(seed: u8, explicit: u8, by_rule: u32) -> u8 {
     if seed == 0 {
         return explicit;
+    }
+    if seed == 0xff {
+        return 0xff;
     }
     (by_rule % 251) as u8
 }

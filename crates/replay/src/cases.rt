@@ -25,8 +25,8 @@ const TWO_PIECES: u8 = 2;
 
 const IP_FRAME: u8 = 3;
 
-// The same lines as IP_FRAME's, with the payload laid into the buffer first.
-const IN_PLACE: u8 = 4;
+// The same lines as IP_FRAME's, with the payload laid into the buffer first: no line has this kind.
+const IN_PLACE: u8 = 0;
 
 const UDP_PAYLOAD: u8 = 5;
 

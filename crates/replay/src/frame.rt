@@ -33,22 +33,7 @@ pub fn sums_right(frame: &[u8]) -> bool {
 }
 
 fn with_pseudo_header(frame: &[u8], payload: &[u8]) -> u16 {
-    let src = ip_src(frame);
-    let dst = ip_dst(frame);
-    let len = payload.len() % 65536;
-    let pseudo = [
-        src[0],
-        src[1],
-        src[2],
-        src[3],
-        dst[0],
-        dst[1],
-        dst[2],
-        dst[3],
-        0,
-        ip_proto(frame),
-        (len / 256) as u8,
-        (len % 256) as u8,
-    ];
+    let len = (payload.len() % 65536) as u16;
+    let pseudo = frames::pseudo_header(ip_src(frame), ip_dst(frame), ip_proto(frame), len);
     65535 - sums::sum(sums::sum(0, &pseudo), payload)
 }

@@ -58,13 +58,13 @@ pub total-none : (s : List ℕ) (i : ℕ) → length s ≤ i → total (drop i s
 unfolding total words sum
 total-none s i h = rw (drop-of-length-le s {i = i} h)
 
--- a piece of 65,536 bytes more: what is folded so far and what is left fold to the same
-pub fold-piece : (s : List ℕ) (at end n running : ℕ) → n ≡ 65536 → at + n ≡ end → end ≤ length s
+-- a piece of even length more: what is folded so far and what is left fold to the same
+pub fold-piece : (s : List ℕ) (at end n k running : ℕ) → n ≡ k * 2 → at + n ≡ end → end ≤ length s
     → fold (fold (running + total (take n (drop at s))) + total (drop end s)) ≡ fold (running + total (drop at s))
-fold-piece s at end n running e f h = fold-fold (running + total (take n (drop at s))) (total (drop end s)) ∙ ap fold whole
+fold-piece s at end n k running e f h = fold-fold (running + total (take n (drop at s))) (total (drop end s)) ∙ ap fold whole
   where
     halves : total (take n (drop at s) ++ drop n (drop at s)) ≡ total (take n (drop at s)) + total (drop n (drop at s))
-    halves = total-append 32768 (take n (drop at s)) (drop n (drop at s)) (simp (length-take, length-drop) (omega arith))
+    halves = total-append k (take n (drop at s)) (drop n (drop at s)) (simp (length-take, length-drop) (omega arith))
 
     whole : running + total (take n (drop at s)) + total (drop end s) ≡ running + total (drop at s)
     whole = let e′ = rw (take-append-drop, drop-drop, f) at halves in omega arith

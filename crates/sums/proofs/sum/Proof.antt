@@ -57,7 +57,7 @@ loop-again c =
       omega arith,
       ap (λ (n : ℕ). fold (n + total (drop (l .at + 65536) s)))
           (c .folded .ensures ∙ ap₂ (λ (r t : ℕ). fold (r + t)) (c .before .before .before .widened .ensures .0) (c .before .words-total .ensures .0))
-          ∙ fold-piece s (l .at) (l .at + 65536) (l .at + 65536 - l .at) (l .running) (omega arith) (omega arith) (omega arith)
+          ∙ fold-piece s (l .at) (l .at + 65536) (l .at + 65536 - l .at) 32768 (l .running) (omega arith) (omega arith) (omega arith)
           ∙ l .inv .1,
     )
 
