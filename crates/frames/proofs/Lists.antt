@@ -1,7 +1,7 @@
 -- Lists of bytes: a list of known length is its elements, and what a buffer holds after pieces are put into it.
 use Prim.Native.Nat.{ℕ, zero, suc, _+_, _≤_, _-_}
 use mathlib.Core.Path.{_≡_, refl, ap, ap₂, sym, _∙_}
-use mathlib.Core.List.{List, [], _∷_, _++_, append-assoc, append-nil}
+use mathlib.Core.List.{List, _∷_, _++_, append-assoc, append-nil}
 use native.Mathlib.Omega.{arith}
 use lib.ListN.{length, getD, take, drop, length-append, length-take, length-drop, drop-of-length-le, take-append-drop}
 use native.Mathlib.Nat.{add-assoc, zero-add, le-of-eq}

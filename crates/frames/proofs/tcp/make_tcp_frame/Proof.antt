@@ -1,6 +1,5 @@
 -- `tcp::make_tcp_frame` meets its contract: the segment is put at 34 and framed in place.
-use Prim.Native.Nat.{_+_}
-use mathlib.Core.Path.{_≡_, sym, _∙_}
+use mathlib.Core.Path.{sym, _∙_}
 use native.Mathlib.Omega.{arith}
 use lib.ListN.{length, length-map}
 use Rattle.frames.specs.Rfc9293.{options, segment, tcpFrame}
