@@ -1,6 +1,7 @@
 -- `ip_hlen` meets its contract: the mask leaves the low four bits, and the shift multiplies by four.
 use native.Mathlib.Omega.{arith}
-use lib.Bits.{and-mask, mask-lt}
+use native.Mathlib.Nat.{lt-of-le-of-lt}
+use lib.Bits.{and-mask, and-le-l}
 use lib.Seq.{getD-drop}
 use borrow.Author.Needs.{needs}
 use Rattle.fields.proofs.ip_hlen.Statement.{statement}
@@ -10,7 +11,7 @@ byte-at-requires : tie.Need-byte-at-requires
 byte-at-requires c κs = search needs
 
 cast-result : tie.Need-cast-result
-cast-result c = omega (arith, mask-lt (c .byte-at .result) 4)
+cast-result c = record { fits = lt-of-le-of-lt {m = c .byte-at .result} (and-le-l _ _) (omega arith) }
 
 returns : tie.Need-returns
 returns c = rw getD-drop (omega (arith, and-mask (c .byte-at .result) 4))
