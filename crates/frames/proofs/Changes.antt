@@ -40,12 +40,8 @@ module _ (limit len need room : ℕ) (image before after : List ℕ) where
         go (built l r n b) = let z : _≡_ {A = ℕ} 1 6 = cc in absurd (omega arith)
 
     pub six-past-limit : limit < len → paper v ≡ 6 ∷ len ∷ []
-    six-past-limit h = go (came v w)
-      where
-        go : Came v → paper v ≡ 6 ∷ len ∷ []
-        go (past-limit l n b) = n
-        go (short-room l r n b) = absurd (omega arith)
-        go (built l r n b) = absurd (omega arith)
+    unfolding building
+    six-past-limit h = simp (lt-ltb limit len h) at (w .numbers)
 
     -- 5 exactly within the limit and with less room than the need; it says the need, and not one byte changes
     pub on-five : (k : ℕ) → paper v ≡ 5 ∷ k ∷ [] → (len ≤ limit) × (room < need) × (k ≡ need) × (after ≡ before)
@@ -57,12 +53,8 @@ module _ (limit len need room : ℕ) (image before after : List ℕ) where
         go (built l r n b) = let z : _≡_ {A = ℕ} 1 5 = cc in absurd (omega arith)
 
     pub five-short-room : len ≤ limit → room < need → paper v ≡ 5 ∷ need ∷ []
-    five-short-room h f = go (came v w)
-      where
-        go : Came v → paper v ≡ 5 ∷ need ∷ []
-        go (past-limit l n b) = absurd (omega arith)
-        go (short-room l r n b) = n
-        go (built l r n b) = absurd (omega arith)
+    unfolding building
+    five-short-room h f = simp (le-ltb limit len h, lt-ltb room need f) at (w .numbers)
 
     -- 1 exactly where neither holds; it says the need, and past what was built nothing changes
     pub on-one : (k : ℕ) → paper v ≡ 1 ∷ k ∷ []
@@ -75,12 +67,8 @@ module _ (limit len need room : ℕ) (image before after : List ℕ) where
         go (built l r n b) = (l, r, cc, b, ap (drop (length image)) b ∙ drop-append-seam image _)
 
     pub one-with-room : len ≤ limit → need ≤ room → paper v ≡ 1 ∷ need ∷ []
-    one-with-room h f = go (came v w)
-      where
-        go : Came v → paper v ≡ 1 ∷ need ∷ []
-        go (past-limit l n b) = absurd (omega arith)
-        go (short-room l r n b) = absurd (omega arith)
-        go (built l r n b) = n
+    unfolding building
+    one-with-room h f = simp (le-ltb limit len h, le-ltb room need f) at (w .numbers)
 
   module _ (guest : Guest) (a : Answer) (m : Meets (spending guest limit len need room image) before after a) where
     written : Wrote (building limit len need room image) before after (a .verdict)

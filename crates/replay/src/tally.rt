@@ -1,4 +1,5 @@
 // How many cases of each kind agreed and how many did not.
+
 // A row for each kind of line; no line has the kinds 0 and 4.
 const ROWS: usize = 9;
 
@@ -68,7 +69,7 @@ fn print_count(n: u64, after: &[u8]) {
     io::write_all(1, after);
 }
 
-fn print_name(row: usize) {
+fn print_name(row: usize) -> bool {
     match row {
         UNREAD_ROW => io::write_all(1, b"line not understood: "),
         1 => io::write_all(1, b"checksum: "),
@@ -80,5 +81,4 @@ fn print_name(row: usize) {
         7 => io::write_all(1, b"checksum of bytes made by rule: "),
         _ => io::write_all(1, b"whole frame from outside: "),
     }
-    ;
 }
