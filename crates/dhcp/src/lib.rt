@@ -1,0 +1,6 @@
+// DHCP as far as a guest needs it: the message type of what it sent, and the reply to it. No
+// function here relies on checks by its caller.
+mod options;
+
+pub use options::Found;
+pub use options::message_type;

@@ -1,0 +1,59 @@
+// The options of a guest's message.
+ghost use mathlib.Core.Path.{_≡_};
+ghost use Prim.Native.Nat.{_<_};
+ghost use Rattle.dhcp.specs.Found.{told};
+ghost use Rattle.dhcp.specs.Rfc2132.{walk};
+
+// What the walk over the options comes to.
+pub enum Found {
+    // The message type; 0 where the walk ends without one.
+    MessageType(u8),
+    // The place of an option 53 whose value is cut off.
+    CutAt(usize),
+}
+
+// The options stand behind the fixed fields and the cookie.
+const OPTIONS_AT: usize = 240;
+
+const PAD: u8 = 0;
+
+const MESSAGE_TYPE: u8 = 53;
+
+const END: u8 = 255;
+
+// The type of the message `data`, which may end anywhere.
+pub fn message_type(data: &[u8]) -> Found
+    ensures { λ r. ⌜ told r ≡ walk (now («data» .entry)) ⌝ }
+{
+    let mut at = OPTIONS_AT;
+    'scan: loop {
+        if data.len() <= at {
+            break 'scan Found::MessageType(0);
+        }
+        let code = data[at];
+        if code == END {
+            break 'scan Found::MessageType(0);
+        }
+        if code == PAD {
+            at += 1;
+            continue 'scan;
+        }
+        if data.len() <= at + 1 {
+            break 'scan Found::MessageType(0);
+        }
+        let len = widened(data[at + 1]);
+        if code == MESSAGE_TYPE && 1 <= len {
+            if data.len() <= at + 2 {
+                break 'scan Found::CutAt(at);
+            }
+            break 'scan Found::MessageType(data[at + 2]);
+        }
+        at += 2 + len;
+    }
+}
+
+fn widened(byte: u8) -> usize
+    ensures { λ r. ⌜ (r ≡ byte) × (r < 256) ⌝ }
+{
+    byte as usize
+}
