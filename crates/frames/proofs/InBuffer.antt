@@ -26,7 +26,7 @@ pub record InBuffer (built before after : List ℕ) (n : ℕ) : Type 0 where
   pub front : take n after ≡ built
   pub rest : drop n after ≡ drop n before
 
-in-buffer : (limit len need room : ℕ) (image before after : List ℕ) (v : Verdict) (n : ℕ) → (need ≤ room → length image ≡ need)
+pub in-buffer : (limit len need room : ℕ) (image before after : List ℕ) (v : Verdict) (n : ℕ) → (need ≤ room → length image ≡ need)
     → Wrote (building limit len need room image) before after v → paper v ≡ 1 ∷ n ∷ [] → InBuffer image before after n
 in-buffer limit len need room image before after v n e w p =
     let c = on-one limit len need room image before after v w n p in

@@ -1,13 +1,14 @@
 -- Lists of bytes: a list of known length is its elements, and what a buffer holds after pieces are put into it.
-use Prim.Native.Nat.{ℕ, zero, suc, _+_, _≤_, _-_}
+use Prim.Native.Nat.{ℕ, zero, suc, _+_, _≤_, _<_, _-_}
 use mathlib.Core.Path.{_≡_, refl, ap, ap₂, sym, _∙_}
 use mathlib.Core.List.{List, _∷_, _++_, append-assoc, append-nil}
 use native.Mathlib.Omega.{arith}
+use borrow.Author.Tests.{le-leb, lt-leb}
 use lib.ListN.{length, getD, take, drop, length-append, length-take, length-drop, drop-of-length-le, take-append-drop}
 use native.Mathlib.Nat.{add-assoc, zero-add, le-of-eq}
 use lib.Seq.{drop-cons, take-all, take-length, drop-drop, take-at, drop-at, length-take-le, take-append-seam}
 use Rattle.fields.specs.Bytes.{part, bytesAt}
-use Rattle.frames.specs.Buffer.{put}
+use Rattle.frames.specs.Buffer.{put, putIfFits}
 
 -- a part that lies within the list is its bytes, one by one
 pub part-bytes : (s : List ℕ) (n a : ℕ) → a + n ≤ length s → take n (drop a s) ≡ bytesAt s a n
@@ -47,19 +48,28 @@ copied at s b rest h e =
     rw (e, take-length s, take-all (length b - at) (drop at b) (le-of-eq (length-drop at b)), drop-of-length-le (drop at b) {i = length b - at} (le-of-eq (length-drop at b)))
     (simp (append-nil, append-assoc, drop-drop))
 
+module _ (at : ℕ) (s b : List ℕ) where
+  pub fits : at + length s ≤ length b → putIfFits at s b ≡ put at s b
+  unfolding putIfFits
+  fits h = simp (le-leb (at + length s) (length b) h)
+
+  pub no-fit : length b < at + length s → putIfFits at s b ≡ b
+  unfolding putIfFits
+  no-fit h = simp (lt-leb (at + length s) (length b) h)
+
 -- two pieces, the second right behind the first, are one piece
 pub put-put : (at : ℕ) (s t b : List ℕ) → at + (length s + length t) ≤ length b → put (at + length s) t (put at s b) ≡ put at (s ++ t) b
 unfolding put
 put-put at s t b h = ap₂ (λ (x y : List ℕ). x ++ t ++ y) front behind ∙ regroup
   where
-    fits : at + length s ≤ length b
-    fits = omega arith
+    there : at + length s ≤ length b
+    there = omega arith
 
     front : take (at + length s) (put at s b) ≡ take at b ++ s
-    front = take-at (take at b ++ s) _ _ (length-front at s b fits)
+    front = take-at (take at b ++ s) _ _ (length-front at s b there)
 
     behind : drop (at + length s + length t) (put at s b) ≡ drop (at + length s + length t) b
-    behind = sym (drop-drop (length t) (at + length s) _) ∙ ap (drop (length t)) (drop-put at s b fits) ∙ drop-drop (length t) (at + length s) b
+    behind = sym (drop-drop (length t) (at + length s) _) ∙ ap (drop (length t)) (drop-put at s b there) ∙ drop-drop (length t) (at + length s) b
 
     regroup : take at b ++ s ++ t ++ drop (at + length s + length t) b ≡ put at (s ++ t) b
     regroup = simp (append-assoc, length-append, add-assoc)

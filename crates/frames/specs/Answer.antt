@@ -53,13 +53,19 @@ pub record Meets (o : Outcome) (before after : List ℕ) (answer : Answer) : Typ
   pub wrote : Wrote (o .writing) before after (answer .verdict)
   pub guest : answer .guest ≡ o .guest
 
--- The rule of 5 and 6, where `image`, of `need` bytes, is to be built around `len` bytes, of which `limit` is the most, and there is `room`:
--- past the limit 6 with the length, "decided before 5"; with less room than it needs 5 with the need; else 1, and it stands in the buffer.
+-- The rule of 5, where `image`, of `need` bytes, is to be built and there is `room`: with less room than it needs 5 with the need;
+-- else 1, and it stands in the buffer.
+abbrev pub fitting : (need room : ℕ) (image : List ℕ) → Writing
+fitting need room image =
+    pick (ltb room need) (record { numbers = 5 ∷ need ∷ []; image = [] })
+    (record { numbers = 1 ∷ need ∷ []; image = image })
+
+-- The rule of 6 before it, where the image is built around `len` bytes, of which `limit` is the most: past the limit 6 with the length,
+-- "decided before 5".
 unfoldable pub building : (limit len need room : ℕ) (image : List ℕ) → Writing
 building limit len need room image =
     pick (ltb limit len) (record { numbers = 6 ∷ len ∷ []; image = [] })
-    (pick (ltb room need) (record { numbers = 5 ∷ need ∷ []; image = [] })
-    (record { numbers = 1 ∷ need ∷ []; image = image }))
+    (fitting need room image)
 
 -- The same of a call that spends an id: on 1 the record is the next one, on 5 and 6 the old one.
 unfoldable pub spending : (guest : Guest) (limit len need room : ℕ) (image : List ℕ) → Outcome

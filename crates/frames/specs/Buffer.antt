@@ -2,7 +2,13 @@
 use Prim.Native.Nat.{ℕ, _+_}
 use mathlib.Core.List.{List, _++_}
 use lib.ListN.{length, take, drop}
+use lib.Dec.{leb}
+use Rattle.frames.specs.Pick.{pick}
 
 -- a buffer once `s` is written into it from `at` on
 unfoldable pub put : ℕ → List ℕ → List ℕ → List ℕ
 put at s buffer = take at buffer ++ s ++ drop (at + length s) buffer
+
+-- the same where there is room for it; else the buffer as it was
+unfoldable pub putIfFits : ℕ → List ℕ → List ℕ → List ℕ
+putIfFits at s buffer = pick (leb (at + length s) (length buffer)) (put at s buffer) buffer

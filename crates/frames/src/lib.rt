@@ -1,5 +1,5 @@
-// Ethernet, IPv4, UDP and TCP on the wire: the record of a guest, the answers of a call and the
-// three builders. No function here relies on checks by its caller.
+// Ethernet, IPv4, UDP and TCP on the wire: the record of a guest, the answers of a call, the three
+// builders and the copy into a lent buffer. No function here relies on checks by its caller.
 mod answer;
 mod ipv4;
 mod network;
@@ -18,3 +18,4 @@ pub use tcp::Endpoints;
 pub use tcp::make_tcp_frame;
 pub use udp::make_udp_payload;
 pub use udp::pseudo_header;
+pub use write::put;

@@ -3,13 +3,18 @@ ghost use mathlib.Core.Path.{_≡_};
 ghost use mathlib.Core.List.{_++_};
 ghost use Prim.Native.Nat.{_+_, _≤_};
 ghost use lib.ListN.{length};
-ghost use Rattle.frames.specs.Buffer.{put as Buffer·put};
+ghost use Rattle.frames.specs.Buffer.{putIfFits, put as Buffer·put};
 
-// Copies `src` into `out` from `at` on.
+// Copies `src` into `out` from `at` on; where it does not fit there, nothing is copied.
 pub fn put(out: &mut [u8], at: usize, src: &[u8])
-    requires { ⌜ at + length (now src) ≤ length (now out) ⌝ }
-    ensures { λ _. ⌜ now (out .exit) ≡ Buffer·put at (now (src .entry)) (now (out .entry)) ⌝ }
+    ensures { λ _. ⌜ now (out .exit) ≡ putIfFits at (now (src .entry)) (now (out .entry)) ⌝ }
 {
+    if out.len() < at {
+        return;
+    }
+    if out.len() - at < src.len() {
+        return;
+    }
     bytes::copy(src, &mut out[at..]);
 }
 

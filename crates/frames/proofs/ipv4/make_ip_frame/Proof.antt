@@ -1,7 +1,8 @@
 -- `ipv4::make_ip_frame` meets its contract: the payload is put at 34 and framed in place.
-use mathlib.Core.Path.{refl}
+use mathlib.Core.Path.{refl, _∙_}
 use native.Mathlib.Omega.{arith}
 use borrow.Author.Needs.{needs}
+use Rattle.frames.proofs.Lists.{fits}
 use Rattle.frames.proofs.Framed.{framed-there}
 use Rattle.frames.proofs.Built.{refused-too-long, refused-no-room}
 use Rattle.frames.proofs.ipv4.make_ip_frame.Statement.{statement}
@@ -38,7 +39,7 @@ returns-3 : tie.Need-returns-3
 returns-3 c =
     let a = c .before .before .before .before .before .before .before .before .before .before .before .before .args in
     framed-there (a .dst-mac) (a .src-ip) (a .dst-ip) (omega arith) (omega arith) (omega arith) (a .guest) _ _ _ (a .guest .id) (a .proto) (a .payload .now) (a .out .now)
-    _ _ _ _ refl (c .before .before .before .before .before .before .put .ensures) refl (omega arith) (omega arith) (omega arith) (c .before .before .make-ip-frame-in-place .ensures)
+    _ _ _ _ refl (c .before .before .before .before .before .before .put .ensures ∙ fits _ _ _ (omega arith)) refl (omega arith) (omega arith) (omega arith) (c .before .before .make-ip-frame-in-place .ensures)
 
 pub make-ip-frame-spec : {M : Type 1} → statement M
 make-ip-frame-spec =

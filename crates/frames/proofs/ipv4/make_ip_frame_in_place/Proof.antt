@@ -5,6 +5,7 @@ use mathlib.Core.List.{List}
 use native.Mathlib.Omega.{arith}
 use borrow.Author.Needs.{needs}
 use Rattle.frames.specs.Buffer.{put}
+use Rattle.frames.proofs.Lists.{fits}
 use Rattle.frames.proofs.Framed.{framed}
 use Rattle.frames.proofs.Built.{refused-too-long, refused-no-room, built}
 use Rattle.frames.proofs.ipv4.make_ip_frame_in_place.Statement.{statement}
@@ -64,8 +65,8 @@ returns-3 c =
     let good = c .before .before .before .before .before .before .before .before .before .before .before .before .before .before .before .before .good in
     rw (c .replied .ensures)
     (built _ _ _ _ _ _ _ _ (omega arith) (omega arith)
-    (c .before .before .before .put2 .ensures
-    ∙ ap₂ (put 14) (c .before .before .before .before .before .before .before .before .before .before .before .header .ensures) (c .before .before .before .before .before .before .before .before .put .ensures ∙ ap (λ (e : List ℕ). put 0 e (a .out .now)) (c .before .before .before .before .before .before .before .before .before .before .before .before .ethernet-header .ensures))
+    (c .before .before .before .put2 .ensures ∙ fits _ _ _ (omega arith)
+    ∙ ap₂ (put 14) (c .before .before .before .before .before .before .before .before .before .before .before .header .ensures) (c .before .before .before .before .before .before .before .before .put .ensures ∙ fits _ _ _ (omega arith) ∙ ap (λ (e : List ℕ). put 0 e (a .out .now)) (c .before .before .before .before .before .before .before .before .before .before .before .before .ethernet-header .ensures))
     ∙ framed (a .dst-mac) (a .src-ip) (a .dst-ip) (omega (arith, good)) (omega (arith, good)) (omega (arith, good)) (a .guest .id) (a .proto) (a .len) (a .out .now) (omega arith)))
 
 pub make-ip-frame-in-place-spec : {M : Type 1} → statement M

@@ -7,7 +7,7 @@ use borrow.Author.Needs.{needs}
 use lib.ListN.{length}
 use Rattle.frames.specs.Buffer.{put}
 use Rattle.frames.specs.Rfc768.{datagram, datagramHeader}
-use Rattle.frames.proofs.Lists.{put-put, put-front}
+use Rattle.frames.proofs.Lists.{fits, put-put, put-front}
 use Rattle.frames.proofs.Built.{too-long, no-room, written}
 use Rattle.frames.proofs.udp.make_udp_payload.Statement.{statement}
 use Rattle.frames.proofs.udp.make_udp_payload.Tie as tie
@@ -54,8 +54,8 @@ returns-3 c =
     let a = c .before .before .before .before .before .before .before .before .before .before .before .before .before .before .args in
     let head = datagramHeader (a .src-port) (a .dst-port) (8 + length (a .data .now)) in
     written _ _ _ _ _ _ _ (omega arith) (omega arith)
-    (c .before .before .put2 .ensures
-    ∙ ap (put 8 (a .data .now)) (c .before .before .before .before .before .before .put .ensures ∙ ap (λ (h : List ℕ). put 0 h (a .out .now)) (c .before .before .before .before .before .before .before .before .before .udp-header .ensures))
+    (c .before .before .put2 .ensures ∙ fits _ _ _ (omega arith)
+    ∙ ap (put 8 (a .data .now)) (c .before .before .before .before .before .before .put .ensures ∙ fits _ _ _ (omega arith) ∙ ap (λ (h : List ℕ). put 0 h (a .out .now)) (c .before .before .before .before .before .before .before .before .before .udp-header .ensures))
     ∙ put-put 0 head (a .data .now) (a .out .now) (omega arith)
     ∙ put-front (head ++ a .data .now) (a .out .now))
 

@@ -5,7 +5,7 @@ use native.Mathlib.Omega.{arith}
 use borrow.Author.Needs.{needs}
 use lib.ListN.{length}
 use Rattle.frames.specs.Buffer.{put}
-use Rattle.frames.proofs.Lists.{put-put, put-behind}
+use Rattle.frames.proofs.Lists.{fits, put-put, put-behind}
 use Rattle.frames.proofs.write.put_three.Statement.{statement}
 use Rattle.frames.proofs.write.put_three.Tie as tie
 
@@ -37,9 +37,9 @@ returns c =
     let y = a .second .now in
     let z = a .third .now in
     let b = a .out .now in
-    c .before .before .put3 .ensures
+    c .before .before .put3 .ensures ∙ fits _ _ _ (omega arith)
     ∙ ap (put (a .at + length x + length y) z)
-    (c .before .before .before .before .before .before .put2 .ensures ∙ ap (put (a .at + length x) y) (c .before .before .before .before .before .before .before .before .before .before .put .ensures) ∙ put-put (a .at) x y b (omega arith))
+    (c .before .before .before .before .before .before .put2 .ensures ∙ fits _ _ _ (omega arith) ∙ ap (put (a .at + length x) y) (c .before .before .before .before .before .before .before .before .before .before .put .ensures ∙ fits _ _ _ (omega arith)) ∙ put-put (a .at) x y b (omega arith))
     ∙ put-behind (a .at) x y z b (omega arith)
 
 pub put-three-spec : {M : Type 1} → statement M
