@@ -2,9 +2,13 @@
 use Prim.Native.Nat.{ℕ, zero, suc, _+_}
 use mathlib.Core.Bool.{Bool, _&&_}
 use mathlib.Core.List.{List, [], _∷_}
-use lib.ListN.{drop}
+use lib.ListN.{length, drop}
 use lib.Dec.{eqb, leb}
 use Rattle.frames.specs.Pick.{pick}
+
+-- section 2: an option is its code, the number of its value's bytes, and these
+abbrev pub option : (code : ℕ) (value : List ℕ) → List ℕ
+option code value = code ∷ length value ∷ value
 
 -- what the walk comes to
 pub data Walked : Type 0 where

@@ -17,9 +17,9 @@ const OPTIONS_AT: usize = 240;
 
 const PAD: u8 = 0;
 
-const MESSAGE_TYPE: u8 = 53;
+pub const MESSAGE_TYPE: u8 = 53;
 
-const END: u8 = 255;
+pub const END: u8 = 255;
 
 // The type of the message `data`, which may end anywhere.
 pub fn message_type(data: &[u8]) -> Found

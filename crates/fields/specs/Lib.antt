@@ -3,3 +3,4 @@ pub mod Rfc894
 pub mod Rfc791
 pub mod Rfc768
 pub mod Rfc9293
+pub mod Rfc2131

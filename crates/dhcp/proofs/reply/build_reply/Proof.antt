@@ -1,0 +1,54 @@
+-- `reply::build_reply` meets its contract: what is written in pieces at the buffer's front is the reply.
+use Prim.Native.Nat.{ℕ}
+use mathlib.Core.List.{List}
+use mathlib.Core.Path.{ap, ap₂, _∙_}
+use native.Mathlib.Omega.{arith}
+use Rattle.frames.specs.Answer.{building}
+use Rattle.frames.specs.Buffer.{put}
+use Rattle.frames.proofs.Built.{no-room, written as built}
+use Rattle.frames.proofs.Lists.{put-front}
+use Rattle.dhcp.specs.Rfc2131.{reply}
+use Rattle.dhcp.specs.Pieces.{written}
+use Rattle.dhcp.proofs.Pieces.{reply-pieces}
+use borrow.Author.Needs.{needs}
+use Rattle.dhcp.proofs.reply.build_reply.Statement.{statement}
+use Rattle.dhcp.proofs.reply.build_reply.Tie as tie
+
+returns : tie.Need-returns
+unfolding building
+returns c = no-room 0 0 _ _ _ _ (omega arith) (c .if1 .taken)
+
+first-fields-requires : tie.Need-first-fields-requires
+first-fields-requires c κs = search needs
+
+option-values-requires : tie.Need-option-values-requires
+option-values-requires c κs = search needs
+
+write-reply-requires : tie.Need-write-reply-requires
+write-reply-requires c κs = search needs
+
+same-length : tie.Need-same-length
+same-length c = search needs
+
+returns-2 : tie.Need-returns-2
+unfolding building
+returns-2 c =
+    let a = c .before .before .before .before .before .before .before .before .before .before .args in
+    let image = reply (a .net) (a .mac) (a .xid) (a .kind) in
+    built 0 0 _ _ _ _ _ (omega arith) (c .before .before .before .before .before .before .before .before .if1 .left)
+    (c .before .before .write-reply .ensures
+    ∙ ap (λ (s : List ℕ). put 0 s (a .out .now))
+    (ap₂ (λ (f : List ℕ) (v : List (List ℕ)). written f (a .kind) v) (c .before .before .before .before .before .first-fields .ensures) (c .before .before .before .before .option-values .ensures)
+    ∙ reply-pieces (a .net) (a .mac) (a .xid) (a .kind))
+    ∙ put-front image (a .out .now))
+
+pub build-reply-spec : {M : Type 1} → statement M
+build-reply-spec =
+    tie.close
+    (tie.spec
+    returns
+    first-fields-requires
+    option-values-requires
+    write-reply-requires
+    same-length
+    returns-2)

@@ -1,0 +1,29 @@
+-- The pieces in which the reply is written. That they make the reply is proved (`proofs/Pieces.antt`): no reader has to believe them.
+use Prim.Native.Nat.{ℕ}
+use mathlib.Core.List.{List, [], _∷_, _++_}
+use lib.ListN.{getD, replicate}
+use Rattle.fields.specs.Bytes.{be32}
+use Rattle.dhcp.specs.Rfc2131.{cookie}
+use Rattle.dhcp.specs.Rfc2132.{option}
+
+-- all fields up to the MAC
+abbrev pub firstFields : (guest gateway mac : List ℕ) (xid : ℕ) → List ℕ
+firstFields guest gateway mac xid = (2 ∷ 1 ∷ 6 ∷ 0 ∷ []) ++ be32 xid ++ replicate 8 0 ++ guest ++ gateway ++ replicate 4 0 ++ mac
+
+-- what stands before the rows
+unfoldable pub fixedPart : (fields : List ℕ) (type : ℕ) → List ℕ
+fixedPart fields type = fields ++ replicate 202 0 ++ cookie ++ option 53 (type ∷ [])
+
+abbrev pub row : List (List ℕ) → ℕ → List ℕ
+row values i = getD values i []
+
+unfoldable pub written : (fields : List ℕ) (type : ℕ) (values : List (List ℕ)) → List ℕ
+written fields type values =
+    fixedPart fields type
+    ++ option 54 (row values 0)
+    ++ option 51 (row values 1)
+    ++ option 1 (row values 2)
+    ++ option 3 (row values 3)
+    ++ option 6 (row values 4)
+    ++ (255 ∷ [])
+    ++ replicate 26 0

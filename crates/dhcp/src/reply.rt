@@ -1,0 +1,187 @@
+// The reply to a guest's message.
+ghost use mathlib.Core.Path.{_≡_};
+ghost use Prim.Native.Nat.{_≤_};
+ghost use lib.ListN.{length};
+ghost use Rattle.frames.specs.Answer.{Wrote};
+ghost use Rattle.frames.specs.Buffer.{put as Buffer·put, putIfFits};
+ghost use Rattle.fields.specs.Bytes.{be32 as Bytes·be32};
+ghost use Rattle.dhcp.specs.Rfc2131.{answering, buildReply, values as Rfc2131·values};
+ghost use Rattle.dhcp.specs.Pieces.{firstFields, fixedPart, written};
+ghost use Rattle.dhcp.specs.Rfc2132.{option};
+use crate::options::END;
+use crate::options::MESSAGE_TYPE;
+use frames::Network;
+use frames::Verdict;
+use frames::put;
+
+// What the reply holds before its options: a reply, for Ethernet, whose addresses have six bytes.
+const BOOT_REPLY: u8 = 2;
+
+const ETHERNET: u8 = 1;
+
+const MAC_LENGTH: u8 = 6;
+
+// Option codes.
+const SERVER_ID: u8 = 54;
+
+const LEASE_TIME: u8 = 51;
+
+const SUBNET_MASK: u8 = 1;
+
+const ROUTER: u8 = 3;
+
+const NAME_SERVER: u8 = 6;
+
+// Where each piece starts, and the length of all.
+const ZEROS_AT: usize = 34;
+
+const COOKIE_AT: usize = 236;
+
+const TYPE_AT: usize = 240;
+
+const SERVER_ID_AT: usize = 243;
+
+const LEASE_TIME_AT: usize = 249;
+
+const SUBNET_MASK_AT: usize = 255;
+
+const ROUTER_AT: usize = 261;
+
+const NAME_SERVER_AT: usize = 267;
+
+const END_AT: usize = 273;
+
+const REPLY: usize = 300;
+
+// Message types.
+const DISCOVER: u8 = 1;
+
+const OFFER: u8 = 2;
+
+const REQUEST: u8 = 3;
+
+const ACK: u8 = 5;
+
+// The type of the reply to a message of type `received`; 0 where it gets none.
+pub fn reply_type(received: u8) -> u8
+    ensures { λ r. ⌜ r ≡ answering received ⌝ }
+{
+    if received == DISCOVER {
+        return OFFER;
+    }
+    if received == REQUEST {
+        return ACK;
+    }
+    0
+}
+
+// A reply of type `kind` at the front of `out`. `mac` is the record's, not the request's.
+pub fn build_reply(net: Network, mac: [u8; 6], xid: u32, kind: u8, out: &mut [u8]) -> Verdict
+    ensures { λ r. ⌜ Wrote (buildReply net mac xid kind (length (now (out .entry)))) (now (out .entry)) (now (out .exit)) r ⌝ }
+{
+    if out.len() < REPLY {
+        return Verdict::NoRoom(REPLY);
+    }
+    let guest = net.guest;
+    let gateway = net.gateway;
+    let fields = first_fields(guest, gateway, mac, xid);
+    write_reply(fields, kind, option_values(net), out);
+    Verdict::Reply(REPLY)
+}
+
+// The rows: server identifier, lease time, subnet mask, router, name server.
+fn option_values(net: Network) -> [[u8; 4]; 5]
+    ensures { λ r. ⌜ r ≡ Rfc2131·values net ⌝ }
+{
+    let gateway = net.gateway;
+    let mask = net.mask;
+    [gateway, be32(net.lease), mask, gateway, gateway]
+}
+
+// Each piece stands right behind the one before it: the fixed part with the message type, an option
+// for each row of `values`, the end and its zeros.
+fn write_reply(fields: [u8; 34], kind: u8, values: [[u8; 4]; 5], out: &mut [u8])
+    requires { ⌜ 300 ≤ length (now out) ⌝ }
+    ensures { λ _. ⌜ now (out .exit) ≡ Buffer·put 0 (written fields kind values) (now (out .entry)) ⌝ }
+{
+    put_fixed_part(fields, kind, out);
+    put_row(out, SERVER_ID_AT, SERVER_ID, values[0]);
+    put_row(out, LEASE_TIME_AT, LEASE_TIME, values[1]);
+    put_row(out, SUBNET_MASK_AT, SUBNET_MASK, values[2]);
+    put_row(out, ROUTER_AT, ROUTER, values[3]);
+    put_row(out, NAME_SERVER_AT, NAME_SERVER, values[4]);
+    put(out, END_AT, &[END]);
+    put(out, END_AT + 1, &[0; 26]);
+}
+
+// The fields, zeros up to the cookie, the cookie and the message type.
+fn put_fixed_part(fields: [u8; 34], kind: u8, out: &mut [u8])
+    requires { ⌜ 300 ≤ length (now out) ⌝ }
+    ensures { λ _. ⌜ now (out .exit) ≡ Buffer·put 0 (fixedPart fields kind) (now (out .entry)) ⌝ }
+{
+    put(out, 0, &fields);
+    put(out, ZEROS_AT, &[0; 202]);
+    put(out, COOKIE_AT, &[0x63, 0x82, 0x53, 0x63]);
+    put(out, TYPE_AT, &[MESSAGE_TYPE, 1, kind]);
+}
+
+// One option of four bytes from `at` on.
+fn put_row(out: &mut [u8], at: usize, code: u8, value: [u8; 4])
+    ensures { λ _. ⌜ (now (out .exit) ≡ putIfFits at (option code value) (now (out .entry))) × (length value ≡ 4) ⌝ }
+{
+    put(out, at, &[code, 4, value[0], value[1], value[2], value[3]]);
+}
+
+// All fields up to the MAC.
+fn first_fields(guest: [u8; 4], gateway: [u8; 4], mac: [u8; 6], xid: u32) -> [u8; 34]
+    ensures { λ r. ⌜ r ≡ firstFields guest gateway mac xid ⌝ }
+{
+    let id = be32(xid);
+    [
+        BOOT_REPLY,
+        ETHERNET,
+        MAC_LENGTH,
+        0,
+        id[0],
+        id[1],
+        id[2],
+        id[3],
+        0,
+        0,
+        0,
+        0,
+        0,
+        0,
+        0,
+        0,
+        guest[0],
+        guest[1],
+        guest[2],
+        guest[3],
+        gateway[0],
+        gateway[1],
+        gateway[2],
+        gateway[3],
+        0,
+        0,
+        0,
+        0,
+        mac[0],
+        mac[1],
+        mac[2],
+        mac[3],
+        mac[4],
+        mac[5],
+    ]
+}
+
+fn be32(n: u32) -> [u8; 4]
+    ensures { λ r. ⌜ r ≡ Bytes·be32 n ⌝ }
+{
+    [
+        (n / 65536 / 256) as u8,
+        (n / 65536 % 256) as u8,
+        (n % 65536 / 256) as u8,
+        (n % 65536 % 256) as u8,
+    ]
+}
