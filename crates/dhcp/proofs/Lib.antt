@@ -5,3 +5,5 @@ pub mod ReadBack
 pub mod RoundTrip
 pub mod OneAnswer
 pub mod InBuffer
+pub mod CutShort
+pub mod CutPlace
