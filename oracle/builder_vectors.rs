@@ -1,10 +1,8 @@
 //! Which calls of the builders are listed.
 
 use crate::cases::{Call, List, Payload, Room, SYN};
-use crate::draws::{GATEWAY_IP, GUEST_IP, GUEST_MAC, SEED};
+use crate::draws::{BROADCAST_IP, BUILDERS_SEED, GATEWAY_IP, GUEST_IP, GUEST_MAC};
 use Room::{Empty, Full, Larger, Most, OneShort, Shorter};
-
-const BROADCAST_IP: [u8; 4] = [10, 0, 2, 255];
 
 /// Small ones both odd and even, around a byte's reach, around what one Ethernet frame carries, and
 /// around a page.
@@ -26,7 +24,9 @@ pub fn list() -> String {
     let mut list = List::new();
     list.comment("Calls of the builders of vpod's slirp, answered by its published Rust.");
     list.comment("Printed by oracle/vectors; oracle/README.md says what a line holds.");
-    list.comment(&format!("Drawn by xorshift64 from seed {SEED:#018x}."));
+    list.comment(&format!(
+        "Drawn by xorshift64 from seed {BUILDERS_SEED:#018x}."
+    ));
 
     checksums(&mut list);
     ip_frames(&mut list);

@@ -1,17 +1,16 @@
 //! A case of the list: a builder's call with its payload and room, the answer to it, and its line.
 
 use published::SlirpBackend;
-use std::collections::BTreeMap;
-use std::fmt::Write;
 
-use crate::draws::Draws;
+use crate::draws::{BUILDERS_SEED, Draws};
+use crate::lines::{ALL_ONES, Lines, hex, ruled_bytes};
 
 pub const SYN: u8 = 0x02;
 pub const MOST_ROOM: usize = 70_144;
 const MOST_WRITTEN_OUT: usize = 64;
 
-const BUILT: u8 = 1;
-const NO_ROOM: u8 = 5;
+pub const BUILT: u8 = 1;
+pub const NO_ROOM: u8 = 5;
 const TOO_LONG: u8 = 6;
 
 #[derive(Clone)]
@@ -48,6 +47,7 @@ pub enum Room {
     Full,
     OneShort,
     Empty,
+    OneMore,
     /// Drawn from what does not fit.
     Shorter,
     /// Drawn from one byte more up to the most.
@@ -170,11 +170,12 @@ impl Payload {
 }
 
 impl Room {
-    fn bytes(self, needed: usize, draws: &mut Draws) -> usize {
+    pub fn bytes(self, needed: usize, draws: &mut Draws) -> usize {
         match self {
             Room::Full => needed,
             Room::OneShort => needed - 1,
             Room::Empty => 0,
+            Room::OneMore => needed + 1,
             Room::Shorter => draws.below(needed),
             Room::Larger => needed + 1 + draws.below(MOST_ROOM - needed),
             Room::Most => MOST_ROOM,
@@ -182,60 +183,28 @@ impl Room {
     }
 }
 
-/// The seed whose bytes are all 0xff: they make the largest sum.
-const ALL_ONES: u8 = 0xff;
-
-fn ruled_bytes(seed: u8, len: usize) -> Vec<u8> {
-    if seed == ALL_ONES {
-        return vec![0xff; len];
-    }
-    (0..len)
-        .map(|i| ((seed as usize + 17 * i) % 251) as u8)
-        .collect()
-}
-
-fn hex(bytes: &[u8]) -> String {
-    bytes.iter().map(|byte| format!("{byte:02x}")).collect()
-}
-
 /// The list as it grows. It follows the Rust's id counter, which belongs to the process.
 pub struct List {
     pub draws: Draws,
-    text: String,
+    lines: Lines,
     next_id: u16,
-    lines_by_kind_and_verdict: BTreeMap<(u8, Option<u8>), usize>,
 }
 
 impl List {
     pub fn new() -> Self {
         List {
-            draws: Draws::new(),
-            text: String::new(),
+            draws: Draws::new(BUILDERS_SEED),
+            lines: Lines::new(),
             next_id: 1,
-            lines_by_kind_and_verdict: BTreeMap::new(),
         }
     }
 
     pub fn comment(&mut self, words: &str) {
-        writeln!(self.text, "# {words}").unwrap();
+        self.lines.comment(words);
     }
 
-    fn line(&mut self, kind: u8, verdict: Option<u8>, line: &str) {
-        self.text.push_str(line.trim_end());
-        self.text.push('\n');
-        *self
-            .lines_by_kind_and_verdict
-            .entry((kind, verdict))
-            .or_default() += 1;
-    }
-
-    /// Ends the list with its counts, so that a cut copy can be told from a whole one.
-    pub fn finish(mut self) -> String {
-        for ((kind, verdict), lines) in std::mem::take(&mut self.lines_by_kind_and_verdict) {
-            let verdict = verdict.map_or(String::new(), |number| format!(" verdict {number:02x}"));
-            self.comment(&format!("kind {kind:02x}{verdict}: {lines} lines"));
-        }
-        self.text
+    pub fn finish(self) -> String {
+        self.lines.finish()
     }
 
     /// Has the Rust build it, and checks all that a line leaves out: which id it took, and that the
@@ -303,14 +272,15 @@ impl List {
                     line = format!("{line} {}", hex(part));
                 }
             }
-            self.line(call.kind(), Some(verdict), &line);
+            self.lines.add(call.kind(), Some(verdict), &line);
         }
         built
     }
 
     pub fn checksum(&mut self, bytes: &[u8]) -> u16 {
         let sum = SlirpBackend::checksum(bytes);
-        self.line(1, None, &format!("01 {sum:04x} {}", hex(bytes)));
+        self.lines
+            .add(1, None, &format!("01 {sum:04x} {}", hex(bytes)));
         sum
     }
 
@@ -325,6 +295,7 @@ impl List {
 
     fn checksum_from_seed(&mut self, seed: u8, len: usize) {
         let sum = SlirpBackend::checksum(&ruled_bytes(seed, len));
-        self.line(7, None, &format!("07 {sum:04x} {seed:02x} {len:08x}"));
+        self.lines
+            .add(7, None, &format!("07 {sum:04x} {seed:02x} {len:08x}"));
     }
 }

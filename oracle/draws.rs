@@ -1,16 +1,19 @@
 //! Draws that are the same in every run: xorshift64 from a fixed seed.
 
-pub const SEED: u64 = 0x9e37_79b9_7f4a_7c15;
+/// The DHCP lists have a seed of their own, so that neither list moves the other's draws.
+pub const BUILDERS_SEED: u64 = 0x9e37_79b9_7f4a_7c15;
+pub const DHCP_SEED: u64 = 0x2545_f491_4f6c_dd1d;
 
 pub const GATEWAY_IP: [u8; 4] = [10, 0, 2, 2];
 pub const GUEST_IP: [u8; 4] = [10, 0, 2, 15];
+pub const BROADCAST_IP: [u8; 4] = [10, 0, 2, 255];
 pub const GUEST_MAC: [u8; 6] = [0x52, 0x54, 0x00, 0x12, 0x34, 0x56];
 
 pub struct Draws(u64);
 
 impl Draws {
-    pub fn new() -> Self {
-        Draws(SEED)
+    pub fn new(seed: u64) -> Self {
+        Draws(seed)
     }
 
     fn next(&mut self) -> u64 {
@@ -37,7 +40,7 @@ impl Draws {
         std::array::from_fn(|_| self.byte())
     }
 
-    fn one_of<T: Copy>(&mut self, values: &[T]) -> T {
+    pub fn one_of<T: Copy>(&mut self, values: &[T]) -> T {
         values[self.below(values.len())]
     }
 

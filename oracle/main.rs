@@ -2,8 +2,13 @@
 
 mod builder_vectors;
 mod cases;
+mod dhcp;
+mod dhcp_cases;
+mod dhcp_vectors;
 mod draws;
+mod lines;
 
 fn main() {
     print!("{}", builder_vectors::list());
+    print!("{}", dhcp_vectors::list());
 }
