@@ -187,7 +187,7 @@ fn hidden_types(list: &mut DhcpList) {
 }
 
 fn first_decides(list: &mut DhcpList) {
-    let strings: [&[u8]; 22] = [
+    let strings: [&[u8]; 26] = [
         &[TYPE, 1, 1, TYPE, 1, 3],
         &[TYPE, 1, 3, TYPE, 1, 1],
         &[TYPE, 1, 0, TYPE, 1, 1],
@@ -202,6 +202,10 @@ fn first_decides(list: &mut DhcpList) {
         &[12, 1, 0, END, TYPE, 1, 1],
         &[END, PAD, PAD, TYPE, 1, 1],
         &[END, TYPE, 1],
+        &[END, 0, TYPE, 1],
+        &[END, 0, TYPE, 1, 1],
+        &[END, 1, 7, TYPE, 1, 3],
+        &[12, 1, TYPE, END, 2, 0, 0, TYPE, 1, 3],
         &[12, 0, END, TYPE],
         &[12, 1, END, TYPE, 1, 1],
         &[PAD, PAD, TYPE],
@@ -305,7 +309,7 @@ fn drawn_ends(list: &mut DhcpList) {
             let (some, any) = (1 + list.draws.below(255) as u8, list.draws.byte());
             options.extend(list.draws.one_of(&[
                 &[][..],
-                &[END, TYPE, 1, 1],
+                &[END, 0, TYPE, 1, 1],
                 &[TYPE],
                 &[TYPE, some],
                 &[TYPE, some, any],
