@@ -1,8 +1,8 @@
 //! A case of the DHCP list: a message walked, a message cut at every place or a reply built, and its
 //! line.
 
+use crate::ask_dhcp::{self, COOKIE, OPTIONS_AT, Walk};
 use crate::cases::{BUILT, NO_ROOM, Room};
-use crate::dhcp::{self, COOKIE, OPTIONS_AT, Walk};
 use crate::draws::{DHCP_SEED, Draws};
 use crate::lines::{Lines, hex, ruled_bytes};
 
@@ -47,7 +47,7 @@ impl DhcpList {
 
     /// The Rust's walk over a message, counted.
     fn ask(&mut self, message: &[u8]) -> Walk {
-        let walk = dhcp::walk(message);
+        let walk = ask_dhcp::walk(message);
         match walk {
             Walk::Type(_) => self.answers += 1,
             Walk::Cut(_) => self.panics += 1,
@@ -97,7 +97,7 @@ impl DhcpList {
 
     /// Lists a reply once for each room.
     pub fn reply(&mut self, xid: u32, mac: &[u8; 6], message_type: u8, rooms: &[Room]) {
-        let built = dhcp::reply(xid, mac, message_type);
+        let built = ask_dhcp::reply(xid, mac, message_type);
         for room in rooms {
             let room = room.bytes(built.len(), &mut self.draws);
             let (verdict, bytes) = if room < built.len() {

@@ -1,7 +1,7 @@
 //! Which messages are walked and which replies are built.
 
+use crate::ask_dhcp::{self, OPTIONS_AT, Walk};
 use crate::cases::Room::{Empty, Full, Larger, Most, OneMore, OneShort, Shorter};
-use crate::dhcp::{self, OPTIONS_AT, Walk};
 use crate::dhcp_cases::{DhcpList, SEEDS_IN_TURN};
 use crate::draws::{DHCP_SEED, Draws, GUEST_MAC};
 use crate::lines::ruled_bytes;
@@ -235,7 +235,7 @@ fn around_the_start(list: &mut DhcpList) {
     }
 }
 
-/// Most of these read otherwise from 239 or from 241 on than from 240.
+/// Most of these read otherwise from 239 or from 241 on than from 240 on.
 fn starts(list: &mut DhcpList) {
     let written_at: [(usize, &[u8]); 22] = [
         (0, &[TYPE]),
@@ -348,7 +348,7 @@ fn ruled_options(list: &mut DhcpList) {
         let seed = list.draws.rule_seed();
         let first = 300 + list.draws.below(900);
         let is_reached = |at: &usize| {
-            dhcp::walk(&[&ruled_bytes(seed, *at)[..], found].concat()) == Walk::Type(3)
+            ask_dhcp::walk(&[&ruled_bytes(seed, *at)[..], found].concat()) == Walk::Type(3)
         };
         let at = (first..first + 270).find(is_reached).unwrap_or(first);
         for end in 1..=found.len() {

@@ -7,6 +7,7 @@ pub const DHCP_SEED: u64 = 0x2545_f491_4f6c_dd1d;
 pub const GATEWAY_IP: [u8; 4] = [10, 0, 2, 2];
 pub const GUEST_IP: [u8; 4] = [10, 0, 2, 15];
 pub const BROADCAST_IP: [u8; 4] = [10, 0, 2, 255];
+pub const GATEWAY_MAC: [u8; 6] = [0x52, 0x54, 0x00, 0x00, 0x00, 0x01];
 pub const GUEST_MAC: [u8; 6] = [0x52, 0x54, 0x00, 0x12, 0x34, 0x56];
 
 pub struct Draws(u64);

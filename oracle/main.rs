@@ -1,8 +1,8 @@
 //! The driver: calls the published Rust and prints what it answers.
 
+mod ask_dhcp;
 mod builder_vectors;
 mod cases;
-mod dhcp;
 mod dhcp_cases;
 mod dhcp_vectors;
 mod draws;

@@ -4,7 +4,7 @@
 use published::{NetworkBackend, SlirpBackend};
 use std::panic::{self, AssertUnwindSafe};
 
-use crate::draws::{BROADCAST_IP, GATEWAY_IP, GUEST_IP};
+use crate::draws::{BROADCAST_IP, GATEWAY_IP, GATEWAY_MAC, GUEST_IP};
 
 /// Where the options start. A shorter message is dropped.
 pub const OPTIONS_AT: usize = 240;
@@ -136,11 +136,14 @@ fn guest_frame(message: &[u8]) -> Vec<u8> {
     frame
 }
 
-/// The frame that document 01 says carries a reply.
+/// The frame that document 01 says carries a reply, whatever id it took.
 fn check_frame(frame: &[u8], reply: &[u8]) {
     assert_eq!(frame.len(), 342);
     assert_eq!(frame[..6], SENDER_MAC);
-    assert_eq!(frame[23], 17);
+    assert_eq!(frame[6..12], GATEWAY_MAC);
+    assert_eq!(frame[12..18], [0x08, 0x00, 0x45, 0, 0x01, 0x48]);
+    assert_eq!(frame[20..24], [0x40, 0x00, 64, 17]);
+    assert_eq!(SlirpBackend::checksum(&frame[14..34]), 0);
     assert_eq!(frame[26..34], [GATEWAY_IP, BROADCAST_IP].concat());
     assert_eq!(frame[34..42], [0x00, 0x44, 0x00, 0x43, 0x01, 0x34, 0, 0]);
     assert_eq!(frame[42..], *reply);
