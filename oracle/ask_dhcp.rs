@@ -71,6 +71,7 @@ fn as_document_01_says(message: &[u8]) -> Walk {
     from_place(OPTIONS_AT, message.get(OPTIONS_AT..).unwrap_or(&[]))
 }
 
+/// The same from any place on, where these bytes remain.
 fn from_place(place: usize, remaining: &[u8]) -> Walk {
     match remaining {
         [0, behind_pad @ ..] => from_place(place + 1, behind_pad),
