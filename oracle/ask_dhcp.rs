@@ -10,6 +10,8 @@ use crate::draws::{BROADCAST_IP, GATEWAY_IP, GATEWAY_MAC, GUEST_IP};
 pub const OPTIONS_AT: usize = 240;
 pub const COOKIE: [u8; 4] = [0x63, 0x82, 0x53, 0x63];
 const COOKIE_AT: usize = 236;
+/// In a frame the reply stands behind 42 bytes of headers, and its type's value behind 53 and 1.
+const REPLY_TYPE_AT: usize = 42 + OPTIONS_AT + 2;
 
 /// The record's MAC and the frame's are different, since a reply holds each in its own place.
 const RECORD_MAC: [u8; 6] = [2, 0, 0, 0, 0, 0x0a];
@@ -113,6 +115,15 @@ fn send(message: &[u8], walk: Walk) {
         check_frame(&frame, &reply(xid, &RECORD_MAC, reply_type));
     }
     assert_eq!(gateway.recv(), None);
+}
+
+/// The type of the reply that the Rust sends to a request of this type; 0 where it sends none.
+pub fn reply_type(received: u8) -> u8 {
+    let mut request = made_a_request(&[0; OPTIONS_AT]);
+    request.extend([53, 1, received]);
+    let mut gateway = SlirpBackend::new(RECORD_MAC);
+    gateway.send(&guest_frame(&request));
+    gateway.recv().map_or(0, |frame| frame[REPLY_TYPE_AT])
 }
 
 fn xid_of(message: &[u8]) -> u32 {

@@ -95,6 +95,12 @@ impl DhcpList {
         self.lines.add(10, None, &line);
     }
 
+    /// Lists the type of the reply to each message type.
+    pub fn reply_types(&mut self) {
+        let types: Vec<u8> = (0..=255).map(ask_dhcp::reply_type).collect();
+        self.lines.add(12, None, &format!("0c {}", hex(&types)));
+    }
+
     /// Lists a reply once for each room.
     pub fn reply(&mut self, xid: u32, mac: &[u8; 6], message_type: u8, rooms: &[Room]) {
         let built = ask_dhcp::reply(xid, mac, message_type);

@@ -60,6 +60,9 @@ pub fn list() -> String {
         client_messages(&mut list, messages);
     }
     replies(&mut list);
+    list.lines
+        .comment("0c: the type of the reply to each message type");
+    list.reply_types();
     list.lines.finish()
 }
 

@@ -3,6 +3,7 @@ ghost use Prim.Native.Nat.{_≤_};
 use crate::answers;
 use crate::answers::Expected;
 use crate::frame;
+use crate::messages;
 use crate::tally;
 use fields::address_at;
 use fields::byte_at;
@@ -36,6 +37,14 @@ const CHECKSUM_BY_RULE: u8 = 7;
 
 const WHOLE_FRAME: u8 = 8;
 
+const OPTION_WALK: u8 = 9;
+
+const CUT_EVERYWHERE: u8 = 10;
+
+const DHCP_REPLY: u8 = 11;
+
+const REPLY_TYPES: u8 = 12;
+
 // A line whose kind has the bit 0x80 set is spoiled: it is right to find it wrong.
 const SPOILED: u8 = 0x80;
 
@@ -52,6 +61,10 @@ pub fn judge(line: &[u8]) -> Case {
         TCP_FRAME => came_out(kind, builds(line, TCP_FRAME, 30)),
         CHECKSUM_BY_RULE => came_out(kind, checksum_by_rule(line)),
         WHOLE_FRAME => came_out(kind, frame::sums_right(answers::rest(line, 1))),
+        OPTION_WALK => came_out(kind, messages::walks(line)),
+        CUT_EVERYWHERE => came_out(kind, messages::cut_everywhere(line)),
+        DHCP_REPLY => came_out(kind, messages::builds_reply(line)),
+        REPLY_TYPES => came_out(kind, messages::reply_types(line)),
         _ => Case {
             row: tally::UNREAD_ROW,
             agrees: false,

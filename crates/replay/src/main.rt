@@ -1,9 +1,11 @@
-// Replays stored vectors: calls of `frames` with the answers that others gave, one to a line of
-// standard input (oracle/README.md has the form). It prints how many of each kind ran and agreed.
+// Replays stored vectors: calls of `sums`, `frames` and `dhcp` with the answers that others gave, one
+// to a line of standard input (oracle/README.md has the form). It prints how many of each kind ran
+// and agreed.
 mod answers;
 mod cases;
 mod frame;
 mod lines;
+mod messages;
 mod tally;
 
 use tally::Tally;

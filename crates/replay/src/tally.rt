@@ -1,7 +1,7 @@
 // How many cases of each kind agreed and how many did not.
 
 // A row for each kind of line; no line has the kinds 0 and 4.
-const ROWS: usize = 9;
+const ROWS: usize = 13;
 
 // Lines that are no case; none agrees.
 pub const UNREAD_ROW: usize = 0;
@@ -10,15 +10,15 @@ pub const UNREAD_ROW: usize = 0;
 pub const SPOILED_ROW: usize = 4;
 
 pub struct Tally {
-    pub right: [u64; 9],
-    pub wrong: [u64; 9],
+    pub right: [u64; 13],
+    pub wrong: [u64; 13],
 }
 
 impl Tally {
     pub fn new() -> Tally {
         Tally {
-            right: [0; 9],
-            wrong: [0; 9],
+            right: [0; 13],
+            wrong: [0; 13],
         }
     }
 
@@ -46,7 +46,7 @@ pub fn print(tally: Tally) {
     print_count(total(wrong), b" do not\n");
 }
 
-fn total(counts: [u64; 9]) -> u64 {
+fn total(counts: [u64; 13]) -> u64 {
     let mut sum: u64 = 0;
     for row in 0..ROWS {
         sum = std::num::wrapping_add_u64(sum, counts[row]);
@@ -79,6 +79,10 @@ fn print_name(row: usize) -> bool {
         5 => io::write_all(1, b"make_udp_payload: "),
         6 => io::write_all(1, b"make_tcp_frame: "),
         7 => io::write_all(1, b"checksum of bytes made by rule: "),
-        _ => io::write_all(1, b"whole frame from outside: "),
+        8 => io::write_all(1, b"whole frame from outside: "),
+        9 => io::write_all(1, b"option walk: "),
+        10 => io::write_all(1, b"message cut at every place: "),
+        11 => io::write_all(1, b"DHCP reply: "),
+        _ => io::write_all(1, b"types of replies: "),
     }
 }

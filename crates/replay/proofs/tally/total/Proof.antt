@@ -7,10 +7,10 @@ use Rattle.replay.proofs.tally.total.Statement.{statement}
 use Rattle.replay.proofs.tally.total.Tie as tie
 
 abbrev Inv-loop : tie.InvT-loop
-Inv-loop counts sum₀ row₀ sum row = (row ≤ 9) × (length counts ≡ 9)
+Inv-loop counts sum₀ row₀ sum row = (row ≤ 13) × (length counts ≡ 13)
 
 abbrev μ-loop : tie.MeasureT-loop
-μ-loop counts sum₀ row₀ sum row = 9 - row
+μ-loop counts sum₀ row₀ sum row = 13 - row
 
 loop-holds : tie.Need-loop-holds Inv-loop μ-loop
 loop-holds c = search needs
