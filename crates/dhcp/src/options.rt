@@ -42,13 +42,14 @@ pub fn message_type(data: &[u8]) -> Found
             break 'scan Found::MessageType(0);
         }
         let len = widened(data[at + 1]);
+        let next = at + (2 + len);
         if code == MESSAGE_TYPE && 1 <= len {
             if data.len() <= at + 2 {
                 break 'scan Found::CutAt(at);
             }
             break 'scan Found::MessageType(data[at + 2]);
         }
-        at += 2 + len;
+        at = next;
     }
 }
 

@@ -50,20 +50,20 @@ shared-slice-read-widened c = search needs
 widened-requires : tie.Need-widened-requires Inv-scan μ-scan
 widened-requires c κs = search needs
 
+add-next : tie.Need-add-next Inv-scan μ-scan
+add-next c = search needs
+
+add-next-2 : tie.Need-add-next-2 Inv-scan μ-scan
+add-next-2 c = search needs
+
 add-if7 : tie.Need-add-if7 Inv-scan μ-scan
 add-if7 c = search needs
 
-add-t14 : tie.Need-add-t14 Inv-scan μ-scan
-add-t14 c = search needs
+add-t15 : tie.Need-add-t15 Inv-scan μ-scan
+add-t15 c = search needs
 
-shared-slice-read-t18 : tie.Need-shared-slice-read-t18 Inv-scan μ-scan
-shared-slice-read-t18 c = search needs
-
-add-at-2 : tie.Need-add-at-2 Inv-scan μ-scan
-add-at-2 c = search needs
-
-add-at-3 : tie.Need-add-at-3 Inv-scan μ-scan
-add-at-3 c = search needs
+shared-slice-read-t19 : tie.Need-shared-slice-read-t19 Inv-scan μ-scan
+shared-slice-read-t19 c = omega (arith, leb-true 1 (c .before .before .before .before .widened .result) (c .before .before .if6 .taken))
 
 scan-less-2 : tie.Need-scan-less-2 Inv-scan μ-scan
 scan-less-2 c = search needs
@@ -119,11 +119,11 @@ message-type-spec =
     add-widened
     shared-slice-read-widened
     widened-requires
+    add-next
+    add-next-2
     add-if7
-    add-t14
-    shared-slice-read-t18
-    add-at-2
-    add-at-3
+    add-t15
+    shared-slice-read-t19
     scan-less-2
     scan-again-2
     returns
