@@ -57,10 +57,7 @@ impl DhcpList {
 
     /// Lists a walk over `ruled` bytes by rule and the written ones behind them.
     pub fn walk(&mut self, seed: u8, ruled: usize, written: &[u8]) -> Walk {
-        let mut message = match seed {
-            0 => vec![0; ruled],
-            _ => ruled_bytes(seed, ruled),
-        };
+        let mut message = filled(seed, ruled);
         message.extend(written);
         let walk = self.ask(&message);
         let (verdict, value) = numbers(walk);
@@ -119,6 +116,14 @@ impl DhcpList {
             );
             self.lines.add(11, Some(verdict), &line);
         }
+    }
+}
+
+/// The bytes by rule before those written out; here seed 0 makes zeros.
+pub fn filled(seed: u8, len: usize) -> Vec<u8> {
+    match seed {
+        0 => vec![0; len],
+        _ => ruled_bytes(seed, len),
     }
 }
 

@@ -2,7 +2,7 @@
 
 use crate::ask_dhcp::{self, OPTIONS_AT, Walk};
 use crate::cases::Room::{Empty, Full, Larger, Most, OneMore, OneShort, Shorter};
-use crate::dhcp_cases::{DhcpList, SEEDS_IN_TURN};
+use crate::dhcp_cases::{DhcpList, SEEDS_IN_TURN, filled};
 use crate::draws::{DHCP_SEED, Draws, GUEST_MAC};
 use crate::lines::ruled_bytes;
 
@@ -53,6 +53,7 @@ pub fn list() -> String {
     lines.comment("Verdict 07: the Rust panics, and the place is that in the panic's text.");
     lines.comment("Each answer and each place is also what document 01 says.");
 
+    check_shortest_panics();
     for (words, add_cases) in WALKS {
         list.group(&format!("09: {words}"), add_cases);
     }
@@ -64,6 +65,26 @@ pub fn list() -> String {
         .comment("0c: the type of the reply to each message type");
     list.reply_types();
     list.lines.finish()
+}
+
+/// The Rust panics on no message of under 242 bytes, and on those of 242 where the last two bytes are
+/// a 53 and a length of one or more. Each is asked, with every ending of two bytes.
+fn check_shortest_panics() {
+    for seed in SEEDS_IN_TURN {
+        let mut message = filled(seed, OPTIONS_AT);
+        for len in 0..=OPTIONS_AT {
+            assert!(matches!(ask_dhcp::walk(&message[..len]), Walk::Type(_)));
+        }
+        message.extend([0; 2]);
+        for ending in 0..=u16::MAX {
+            let [code, len] = ending.to_be_bytes();
+            message[OPTIONS_AT..].copy_from_slice(&[code, len]);
+            let cut = ask_dhcp::walk(&message) == Walk::Cut(OPTIONS_AT);
+            assert_eq!(cut, code == TYPE && len >= 1);
+            let without_length = ask_dhcp::walk(&message[..OPTIONS_AT + 1]);
+            assert!(matches!(without_length, Walk::Type(_)));
+        }
+    }
 }
 
 fn marked_cases(list: &mut DhcpList) {
