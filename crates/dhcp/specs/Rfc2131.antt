@@ -1,7 +1,7 @@
 -- DHCP: the reply, a message of RFC 2131, figure 1, with document 01's values ("DHCP reply: 300 bytes"), and what it answers.
 use Prim.Native.Nat.{ℕ}
 use mathlib.Core.List.{List, [], _∷_, _++_}
-use lib.ListN.{getD, replicate}
+use lib.ListN.{replicate}
 use lib.Dec.{eqb}
 use Rattle.fields.specs.Bytes.{be16, be32}
 use Rattle.frames.specs.Pick.{pick}

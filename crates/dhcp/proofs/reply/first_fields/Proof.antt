@@ -1,5 +1,4 @@
 -- `reply::first_fields` meets its contract: each address is its bytes.
-use mathlib.Core.Path.{ap, _∙_}
 use native.Mathlib.Omega.{arith}
 use Rattle.frames.proofs.Lists.{all-bytes}
 use borrow.Author.Needs.{needs}

@@ -1,5 +1,5 @@
 -- `reply::put_row` meets its contract: a row of four bytes behind its code and its length is an option.
-use mathlib.Core.Path.{ap, _∙_}
+use mathlib.Core.Path.{_∙_}
 use native.Mathlib.Omega.{arith}
 use Rattle.frames.proofs.Lists.{all-bytes}
 use borrow.Author.Needs.{needs}

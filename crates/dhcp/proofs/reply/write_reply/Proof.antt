@@ -1,5 +1,5 @@
 -- `reply::write_reply` meets its contract: the fixed part, then seven pieces, each right behind the one before it.
-use mathlib.Core.Path.{refl, ap, _∙_}
+use mathlib.Core.Path.{refl, _∙_}
 use native.Mathlib.Omega.{arith}
 use Rattle.dhcp.specs.Pieces.{written}
 use Rattle.dhcp.proofs.Pieces.{fixed-front, behind}

@@ -1,8 +1,8 @@
 -- `tcp::make_tcp_frame` meets its contract: the segment is put at 34 and framed in place.
 use mathlib.Core.Path.{sym, _∙_}
 use native.Mathlib.Omega.{arith}
-use lib.ListN.{length, length-map}
-use Rattle.frames.specs.Rfc9293.{options, segment, tcpFrame}
+use lib.ListN.{length-map}
+use Rattle.frames.specs.Rfc9293.{segment, tcpFrame}
 use Rattle.frames.proofs.Built.{refused-too-long, refused-no-room}
 use Rattle.frames.proofs.Framed.{framed-there}
 use Rattle.frames.proofs.TcpLaws.{limit-holds, length-segment}
