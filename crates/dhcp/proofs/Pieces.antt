@@ -9,8 +9,8 @@ use Rattle.fields.specs.Bytes.{be32}
 use Rattle.frames.specs.Buffer.{put, putIfFits}
 use Rattle.frames.specs.declared.network.Network.{Network}
 use Rattle.frames.proofs.Lists.{fits, length-put, put-put, put-front}
-use Rattle.dhcp.specs.Pieces.{firstFields, fixedPart, written}
-use Rattle.dhcp.specs.Rfc2131.{cookie, reply, values}
+use Rattle.dhcp.specs.Pieces.{firstFields, fixedPart, values, written}
+use Rattle.dhcp.specs.Rfc2131.{cookie, reply}
 use Rattle.dhcp.specs.Rfc2132.{option}
 
 -- the buffer `b` once `front`, of `len` bytes, stands at its front
@@ -41,10 +41,10 @@ behind {b} {front} {now} {len} f piece n e room {after} p =
     same : length (put 0 front b) ≡ length b
     same = length-put 0 front b (omega (arith, long))
 
--- what stands before the rows, written at a buffer's front
-pub fixed-front : (b fields : List ℕ) (type : ℕ) {now : List ℕ} → length fields ≡ 34 → now ≡ put 0 (fixedPart fields type) b → Front b (fixedPart fields type) 243 now
+-- what stands before the options, written at a buffer's front
+pub fixed-front : (b fields : List ℕ) {now : List ℕ} → length fields ≡ 34 → now ≡ put 0 (fixedPart fields) b → Front b (fixedPart fields) 240 now
 unfolding fixedPart
-fixed-front b fields type e p = record { bytes = p; long = simp length-append (omega (arith, e)) }
+fixed-front b fields e p = record { bytes = p; long = simp length-append (omega (arith, e)) }
 
 -- the zeros of chaddr, sname and file in one
 zeros : (s : List ℕ) → s ++ replicate 202 0 ≡ s ++ replicate 10 0 ++ replicate 64 0 ++ replicate 128 0

@@ -2,11 +2,7 @@
 use Prim.Native.Nat.{ℕ, zero, suc, _+_, _-_, _≤_, _<_}
 use mathlib.Core.Path.{_≡_, refl, ap, sym, _∙_}
 use mathlib.Core.List.{List, [], _∷_}
-use mathlib.Core.Bool.{Bool, true, false}
 use native.Mathlib.Omega.{arith}
-use borrow.Author.Tests.{ltb-true, ltb-false}
-use lib.Dec.{ltb}
-use Rattle.fields.proofs.Reading.{past-end}
 use lib.ListN.{length, getD, replicate, getD-replicate}
 use Rattle.fields.specs.Bytes.{u8At, u32At, bytesAt}
 use Rattle.fields.specs.Rfc2131.{operation, hardwareType, hardwareLength, hopCount, transactionId, secondsElapsed, flagsField, clientAddress, yourAddress, serverAddress, relayAddress, hardwareAddress, magicCookie}
@@ -67,7 +63,7 @@ pub data Else (i : ℕ) : Type 0 where
   seconds-flags-client : 8 ≤ i → i < 16 → Else i
   relay : 24 ≤ i → i < 28 → Else i
   behind-mac : 34 ≤ i → i < 236 → Else i
-  behind-end : 274 ≤ i → Else i
+  behind-end : 274 ≤ i → i < 300 → Else i
 
 module _ (net : Network) (mac : List ℕ) (xid type : ℕ) (four : FourBytes net) (six : length mac ≡ 6) where
   pub reply-reads-back : ReplyOf (reply net mac xid type) net mac xid type
@@ -105,14 +101,10 @@ module _ (net : Network) (mac : List ℕ) (xid type : ℕ) (four : FourBytes net
   unfolding reply
   eight-zeros = refl
 
-  -- all else is 0, past the last byte too
+  -- all else is 0
   pub else-0 : (i : ℕ) → Else i → u8At (reply net mac xid type) i ≡ 0
   else-0 i (hops e) = ap (u8At (reply net mac xid type)) e ∙ reply-reads-back .no-hops
   else-0 i (seconds-flags-client from to) = among-zeros (reply net mac xid type) 8 8 i eight-zeros from to
   else-0 i (relay from to) = among-zeros (reply net mac xid type) 4 24 i (reply-reads-back .no-relay) from to
   else-0 i (behind-mac from to) = among-zeros (reply net mac xid type) 202 34 i (reply-reads-back .zeros) from to
-  else-0 i (behind-end from) = go (ltb i 300) refl
-    where
-      go : (t : Bool) → ltb i 300 ≡ t → u8At (reply net mac xid type) i ≡ 0
-      go true e = among-zeros (reply net mac xid type) 26 274 i (reply-reads-back .end-zeros) from (ltb-true i 300 e)
-      go false e = past-end (reply net mac xid type) i (omega (arith, reply-reads-back .long, ltb-false i 300 e))
+  else-0 i (behind-end from to) = among-zeros (reply net mac xid type) 26 274 i (reply-reads-back .end-zeros) from to

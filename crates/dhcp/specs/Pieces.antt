@@ -3,6 +3,7 @@ use Prim.Native.Nat.{ℕ}
 use mathlib.Core.List.{List, [], _∷_, _++_}
 use lib.ListN.{getD, replicate}
 use Rattle.fields.specs.Bytes.{be32}
+use Rattle.frames.specs.declared.network.Network.{Network}
 use Rattle.dhcp.specs.Rfc2131.{cookie}
 use Rattle.dhcp.specs.Rfc2132.{option}
 
@@ -10,16 +11,21 @@ use Rattle.dhcp.specs.Rfc2132.{option}
 abbrev pub firstFields : (guest gateway mac : List ℕ) (xid : ℕ) → List ℕ
 firstFields guest gateway mac xid = (2 ∷ 1 ∷ 6 ∷ 0 ∷ []) ++ be32 xid ++ replicate 8 0 ++ guest ++ gateway ++ replicate 4 0 ++ mac
 
--- what stands before the rows
-unfoldable pub fixedPart : (fields : List ℕ) (type : ℕ) → List ℕ
-fixedPart fields type = fields ++ replicate 202 0 ++ cookie ++ option 53 (type ∷ [])
+-- what stands before the options
+unfoldable pub fixedPart : (fields : List ℕ) → List ℕ
+fixedPart fields = fields ++ replicate 202 0 ++ cookie
+
+-- "five four-byte option values, held as rows"
+abbrev pub values : Network → List (List ℕ)
+values net = net .gateway ∷ be32 (net .lease) ∷ net .mask ∷ net .gateway ∷ net .gateway ∷ []
 
 abbrev pub row : List (List ℕ) → ℕ → List ℕ
 row values i = getD values i []
 
 unfoldable pub written : (fields : List ℕ) (type : ℕ) (values : List (List ℕ)) → List ℕ
 written fields type values =
-    fixedPart fields type
+    fixedPart fields
+    ++ option 53 (type ∷ [])
     ++ option 54 (row values 0)
     ++ option 51 (row values 1)
     ++ option 1 (row values 2)

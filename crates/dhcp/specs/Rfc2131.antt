@@ -36,10 +36,6 @@ reply net mac xid type =
     ++ (255 ∷ [])  -- 273: end
     ++ replicate 26 0  -- 274, to 300 bytes
 
--- "five four-byte option values, held as rows"
-abbrev pub values : Network → List (List ℕ)
-values net = net .gateway ∷ be32 (net .lease) ∷ net .mask ∷ net .gateway ∷ net .gateway ∷ []
-
 -- what is to come of a call that builds the reply
 abbrev pub buildReply : Network → (mac : List ℕ) (xid type room : ℕ) → Writing
 buildReply net mac xid type room = fitting 300 room (reply net mac xid type)

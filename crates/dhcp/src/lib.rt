@@ -1,5 +1,5 @@
-// DHCP as far as a guest needs it: the message type of what it sent, and the reply to it. No
-// function here relies on checks by its caller.
+// DHCP as far as a guest needs it: the message type of what it sent, and the reply to it. No public
+// function relies on checks by its caller.
 mod options;
 mod reply;
 

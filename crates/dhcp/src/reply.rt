@@ -5,8 +5,8 @@ ghost use lib.ListN.{length};
 ghost use Rattle.frames.specs.Answer.{Wrote};
 ghost use Rattle.frames.specs.Buffer.{put as Buffer·put, putIfFits};
 ghost use Rattle.fields.specs.Bytes.{be32 as Bytes·be32};
-ghost use Rattle.dhcp.specs.Rfc2131.{answering, buildReply, values as Rfc2131·values};
-ghost use Rattle.dhcp.specs.Pieces.{firstFields, fixedPart, written};
+ghost use Rattle.dhcp.specs.Rfc2131.{answering, buildReply};
+ghost use Rattle.dhcp.specs.Pieces.{firstFields, fixedPart, written, values as Pieces·values};
 ghost use Rattle.dhcp.specs.Rfc2132.{option};
 use crate::options::END;
 use crate::options::MESSAGE_TYPE;
@@ -21,6 +21,8 @@ const ETHERNET: u8 = 1;
 
 const MAC_LENGTH: u8 = 6;
 
+const COOKIE: [u8; 4] = [0x63, 0x82, 0x53, 0x63];
+
 // Option codes.
 const SERVER_ID: u8 = 54;
 
@@ -32,7 +34,7 @@ const ROUTER: u8 = 3;
 
 const NAME_SERVER: u8 = 6;
 
-// Where each piece starts, and the length of all.
+// Where each piece starts, and how long the reply is.
 const ZEROS_AT: usize = 34;
 
 const COOKIE_AT: usize = 236;
@@ -51,7 +53,7 @@ const NAME_SERVER_AT: usize = 267;
 
 const END_AT: usize = 273;
 
-const REPLY: usize = 300;
+const REPLY_LENGTH: usize = 300;
 
 // Message types.
 const DISCOVER: u8 = 1;
@@ -79,53 +81,54 @@ pub fn reply_type(received: u8) -> u8
 pub fn build_reply(net: Network, mac: [u8; 6], xid: u32, kind: u8, out: &mut [u8]) -> Verdict
     ensures { λ r. ⌜ Wrote (buildReply net mac xid kind (length (now (out .entry)))) (now (out .entry)) (now (out .exit)) r ⌝ }
 {
-    if out.len() < REPLY {
-        return Verdict::NoRoom(REPLY);
+    if out.len() < REPLY_LENGTH {
+        return Verdict::NoRoom(REPLY_LENGTH);
     }
     let guest = net.guest;
     let gateway = net.gateway;
     let fields = first_fields(guest, gateway, mac, xid);
     write_reply(fields, kind, option_values(net), out);
-    Verdict::Reply(REPLY)
+    Verdict::Reply(REPLY_LENGTH)
 }
 
 // The rows: server identifier, lease time, subnet mask, router, name server.
 fn option_values(net: Network) -> [[u8; 4]; 5]
-    ensures { λ r. ⌜ r ≡ Rfc2131·values net ⌝ }
+    ensures { λ r. ⌜ r ≡ Pieces·values net ⌝ }
 {
     let gateway = net.gateway;
     let mask = net.mask;
     [gateway, be32(net.lease), mask, gateway, gateway]
 }
 
-// Each piece stands right behind the one before it: the fixed part with the message type, an option
-// for each row of `values`, the end and its zeros.
-fn write_reply(fields: [u8; 34], kind: u8, values: [[u8; 4]; 5], out: &mut [u8])
+// Each piece stands right behind the one before it: the fixed part, the message type, an option for
+// each row of `values`, the end and its zeros.
+fn write_reply(fields: [u8; ZEROS_AT], kind: u8, values: [[u8; 4]; 5], out: &mut [u8])
     requires { ⌜ 300 ≤ length (now out) ⌝ }
     ensures { λ _. ⌜ now (out .exit) ≡ Buffer·put 0 (written fields kind values) (now (out .entry)) ⌝ }
 {
-    put_fixed_part(fields, kind, out);
+    put_fixed_part(fields, out);
+    put(out, TYPE_AT, &[MESSAGE_TYPE, 1, kind]);
     put_row(out, SERVER_ID_AT, SERVER_ID, values[0]);
     put_row(out, LEASE_TIME_AT, LEASE_TIME, values[1]);
     put_row(out, SUBNET_MASK_AT, SUBNET_MASK, values[2]);
     put_row(out, ROUTER_AT, ROUTER, values[3]);
     put_row(out, NAME_SERVER_AT, NAME_SERVER, values[4]);
     put(out, END_AT, &[END]);
-    put(out, END_AT + 1, &[0; 26]);
+    put(out, END_AT + 1, &[0; REPLY_LENGTH - END_AT - 1]);
 }
 
-// The fields, zeros up to the cookie, the cookie and the message type.
-fn put_fixed_part(fields: [u8; 34], kind: u8, out: &mut [u8])
+// The fields, zeros up to the cookie, and the cookie.
+fn put_fixed_part(fields: [u8; ZEROS_AT], out: &mut [u8])
     requires { ⌜ 300 ≤ length (now out) ⌝ }
-    ensures { λ _. ⌜ now (out .exit) ≡ Buffer·put 0 (fixedPart fields kind) (now (out .entry)) ⌝ }
+    ensures { λ _. ⌜ now (out .exit) ≡ Buffer·put 0 (fixedPart fields) (now (out .entry)) ⌝ }
 {
+    let cookie = COOKIE;
     put(out, 0, &fields);
-    put(out, ZEROS_AT, &[0; 202]);
-    put(out, COOKIE_AT, &[0x63, 0x82, 0x53, 0x63]);
-    put(out, TYPE_AT, &[MESSAGE_TYPE, 1, kind]);
+    put(out, ZEROS_AT, &[0; COOKIE_AT - ZEROS_AT]);
+    put(out, COOKIE_AT, &cookie);
 }
 
-// One option of four bytes from `at` on.
+// One option of four bytes from `at` on. (A row's length stands here for the callers' proofs.)
 fn put_row(out: &mut [u8], at: usize, code: u8, value: [u8; 4])
     ensures { λ _. ⌜ (now (out .exit) ≡ putIfFits at (option code value) (now (out .entry))) × (length value ≡ 4) ⌝ }
 {
@@ -133,7 +136,7 @@ fn put_row(out: &mut [u8], at: usize, code: u8, value: [u8; 4])
 }
 
 // All fields up to the MAC.
-fn first_fields(guest: [u8; 4], gateway: [u8; 4], mac: [u8; 6], xid: u32) -> [u8; 34]
+fn first_fields(guest: [u8; 4], gateway: [u8; 4], mac: [u8; 6], xid: u32) -> [u8; ZEROS_AT]
     ensures { λ r. ⌜ r ≡ firstFields guest gateway mac xid ⌝ }
 {
     let id = be32(xid);

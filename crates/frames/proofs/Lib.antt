@@ -9,3 +9,4 @@ pub mod SumsRight
 pub mod ReadBack
 pub mod Addresses
 pub mod InBuffer
+pub mod Fitting

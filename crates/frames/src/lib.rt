@@ -1,5 +1,5 @@
 // Ethernet, IPv4, UDP and TCP on the wire: the record of a guest, the answers of a call, the three
-// builders and the copy into a lent buffer. No function here relies on checks by its caller.
+// builders and the copy into a lent buffer. No public function relies on checks by its caller.
 mod answer;
 mod ipv4;
 mod network;

@@ -2,10 +2,8 @@
 use Prim.Native.Nat.{ℕ}
 use mathlib.Core.List.{List}
 use mathlib.Core.Path.{ap, ap₂, _∙_}
-use native.Mathlib.Omega.{arith}
-use Rattle.frames.specs.Answer.{building}
 use Rattle.frames.specs.Buffer.{put}
-use Rattle.frames.proofs.Built.{no-room, written as built}
+use Rattle.frames.proofs.Fitting.{does-not-fit, does-fit}
 use Rattle.frames.proofs.Lists.{put-front}
 use Rattle.dhcp.specs.Rfc2131.{reply}
 use Rattle.dhcp.specs.Pieces.{written}
@@ -15,8 +13,7 @@ use Rattle.dhcp.proofs.reply.build_reply.Statement.{statement}
 use Rattle.dhcp.proofs.reply.build_reply.Tie as tie
 
 returns : tie.Need-returns
-unfolding building
-returns c = no-room 0 0 _ _ _ _ (omega arith) (c .if1 .taken)
+returns c = does-not-fit 300 _ _ _ (c .if1 .taken)
 
 first-fields-requires : tie.Need-first-fields-requires
 first-fields-requires c κs = search needs
@@ -31,16 +28,14 @@ same-length : tie.Need-same-length
 same-length c = search needs
 
 returns-2 : tie.Need-returns-2
-unfolding building
 returns-2 c =
     let a = c .before .before .before .before .before .before .before .before .before .before .args in
-    let image = reply (a .net) (a .mac) (a .xid) (a .kind) in
-    built 0 0 _ _ _ _ _ (omega arith) (c .before .before .before .before .before .before .before .before .if1 .left)
+    does-fit 300 _ _ _ _ (c .before .before .before .before .before .before .before .before .if1 .left)
     (c .before .before .write-reply .ensures
     ∙ ap (λ (s : List ℕ). put 0 s (a .out .now))
     (ap₂ (λ (f : List ℕ) (v : List (List ℕ)). written f (a .kind) v) (c .before .before .before .before .before .first-fields .ensures) (c .before .before .before .before .option-values .ensures)
     ∙ reply-pieces (a .net) (a .mac) (a .xid) (a .kind))
-    ∙ put-front image (a .out .now))
+    ∙ put-front (reply (a .net) (a .mac) (a .xid) (a .kind)) (a .out .now))
 
 pub build-reply-spec : {M : Type 1} → statement M
 build-reply-spec =

@@ -1,4 +1,4 @@
--- `reply::put_fixed_part` meets its contract: four pieces, each right behind the one before it.
+-- `reply::put_fixed_part` meets its contract: three pieces, each right behind the one before it.
 use mathlib.Core.Path.{refl}
 use native.Mathlib.Omega.{arith}
 use Rattle.dhcp.specs.Pieces.{fixedPart}
@@ -25,33 +25,20 @@ slice-aggregate-put-3 c = search needs
 put-requires-3 : tie.Need-put-requires-3
 put-requires-3 c κs = search needs
 
-slice-aggregate-put-4 : tie.Need-slice-aggregate-put-4
-slice-aggregate-put-4 c = search needs
-
-put-requires-4 : tie.Need-put-requires-4
-put-requires-4 c κs = search needs
-
 same-length : tie.Need-same-length
 same-length c = search needs
 
 returns : tie.Need-returns
 unfolding fixedPart
 returns c =
-    let type = c .before .before in
-    let cookie = type .before .before .before .before .before in
+    let cookie = c .before .before in
     let zeros = cookie .before .before .before .before .before in
     let fields = zeros .before .before .before .before .before in
     let start = fields .before .before .before .before in
-    let a = start .args in
     let room = start .pre in
-    behind
-    (behind
-    (behind
-    (behind (nothing-yet (a .out .now)) (a .t1) 34 (omega (arith, start .good)) (omega (arith, room)) (fields .put .ensures))
-    _ 202 refl (omega (arith, room)) (zeros .put2 .ensures))
-    _ 4 refl (omega (arith, room)) (cookie .put3 .ensures))
-    _ 3 refl (omega (arith, room)) (type .put4 .ensures)
-    .bytes
+    let one = behind (nothing-yet (start .args .out .now)) (start .args .t1) 34 (omega (arith, start .good)) (omega (arith, room)) (fields .put .ensures) in
+    let two = behind one _ 202 refl (omega (arith, room)) (zeros .put2 .ensures) in
+    behind two _ 4 refl (omega (arith, room)) (cookie .put3 .ensures) .bytes
 
 pub put-fixed-part-spec : {M : Type 1} → statement M
 put-fixed-part-spec =
@@ -63,7 +50,5 @@ put-fixed-part-spec =
     put-requires-2
     slice-aggregate-put-3
     put-requires-3
-    slice-aggregate-put-4
-    put-requires-4
     same-length
     returns)

@@ -1,4 +1,4 @@
--- `reply::write_reply` meets its contract: the fixed part, then seven pieces, each right behind the one before it.
+-- `reply::write_reply` meets its contract: the fixed part, then eight pieces, each right behind the one before it.
 use mathlib.Core.Path.{refl, _∙_}
 use native.Mathlib.Omega.{arith}
 use Rattle.dhcp.specs.Pieces.{written}
@@ -9,6 +9,12 @@ use Rattle.dhcp.proofs.reply.write_reply.Tie as tie
 
 put-fixed-part-requires : tie.Need-put-fixed-part-requires
 put-fixed-part-requires c κs = search needs
+
+slice-aggregate-put : tie.Need-slice-aggregate-put
+slice-aggregate-put c = search needs
+
+put-requires : tie.Need-put-requires
+put-requires c κs = search needs
 
 array-copy-out-put-row : tie.Need-array-copy-out-put-row
 array-copy-out-put-row c = search needs
@@ -40,20 +46,20 @@ array-copy-out-put-row-5 c = search needs
 put-row-requires-5 : tie.Need-put-row-requires-5
 put-row-requires-5 c κs = search needs
 
-slice-aggregate-put : tie.Need-slice-aggregate-put
-slice-aggregate-put c = search needs
-
-put-requires : tie.Need-put-requires
-put-requires c κs = search needs
-
-add-put : tie.Need-add-put
-add-put c = search needs
-
 slice-aggregate-put-2 : tie.Need-slice-aggregate-put-2
 slice-aggregate-put-2 c = search needs
 
 put-requires-2 : tie.Need-put-requires-2
 put-requires-2 c κs = search needs
+
+add-put : tie.Need-add-put
+add-put c = search needs
+
+slice-aggregate-put-3 : tie.Need-slice-aggregate-put-3
+slice-aggregate-put-3 c = search needs
+
+put-requires-3 : tie.Need-put-requires-3
+put-requires-3 c κs = search needs
 
 same-length : tie.Need-same-length
 same-length c =
@@ -64,15 +70,17 @@ same-length c =
     let row3 = row4 .before .before .before .before .before in
     let row2 = row3 .before .before .before .before .before in
     let row1 = row2 .before .before .before .before .before in
-    let fixed = row1 .before .before .before .before .before in
-    end-zeros .put2 .kept .0
-    ∙ end-code .put .kept .0
+    let type = row1 .before .before .before .before .before in
+    let fixed = type .before .before .before .before .before in
+    end-zeros .put3 .kept .0
+    ∙ end-code .put2 .kept .0
     ∙ row5 .put-row5 .kept .0
     ∙ row4 .put-row4 .kept .0
     ∙ row3 .put-row3 .kept .0
     ∙ row2 .put-row2 .kept .0
     ∙ row1 .put-row .kept .0
-    ∙ fixed .put-fixed-part .kept .1 .1 .0
+    ∙ type .put .kept .0
+    ∙ fixed .put-fixed-part .kept .1 .0
 
 returns : tie.Need-returns
 unfolding written
@@ -84,24 +92,27 @@ returns c =
     let row3 = row4 .before .before .before .before .before in
     let row2 = row3 .before .before .before .before .before in
     let row1 = row2 .before .before .before .before .before in
-    let fixed = row1 .before .before .before .before .before in
+    let type = row1 .before .before .before .before .before in
+    let fixed = type .before .before .before .before .before in
     let start = fixed .before .before .before in
-    let a = start .args in
     let room = start .pre in
-    let none = fixed-front (a .out .now) (a .fields) (a .kind) (omega (arith, start .good)) (fixed .put-fixed-part .ensures) in
+    let before = fixed-front (start .args .out .now) (start .args .fields) (omega (arith, start .good)) (fixed .put-fixed-part .ensures) in
+    let none = behind before _ 3 refl (omega (arith, room)) (type .put .ensures) in
     let one = behind none _ 6 (omega (arith, row1 .put-row .ensures .1)) (omega (arith, room)) (row1 .put-row .ensures .0) in
     let two = behind one _ 6 (omega (arith, row2 .put-row2 .ensures .1)) (omega (arith, room)) (row2 .put-row2 .ensures .0) in
     let three = behind two _ 6 (omega (arith, row3 .put-row3 .ensures .1)) (omega (arith, room)) (row3 .put-row3 .ensures .0) in
     let four = behind three _ 6 (omega (arith, row4 .put-row4 .ensures .1)) (omega (arith, room)) (row4 .put-row4 .ensures .0) in
     let five = behind four _ 6 (omega (arith, row5 .put-row5 .ensures .1)) (omega (arith, room)) (row5 .put-row5 .ensures .0) in
-    let ended = behind five _ 1 refl (omega (arith, room)) (end-code .put .ensures) in
-    behind ended _ 26 refl (omega (arith, room)) (end-zeros .put2 .ensures) .bytes
+    let ended = behind five _ 1 refl (omega (arith, room)) (end-code .put2 .ensures) in
+    behind ended _ 26 refl (omega (arith, room)) (end-zeros .put3 .ensures) .bytes
 
 pub write-reply-spec : {M : Type 1} → statement M
 write-reply-spec =
     tie.close
     (tie.spec
     put-fixed-part-requires
+    slice-aggregate-put
+    put-requires
     array-copy-out-put-row
     put-row-requires
     array-copy-out-put-row-2
@@ -112,10 +123,10 @@ write-reply-spec =
     put-row-requires-4
     array-copy-out-put-row-5
     put-row-requires-5
-    slice-aggregate-put
-    put-requires
-    add-put
     slice-aggregate-put-2
     put-requires-2
+    add-put
+    slice-aggregate-put-3
+    put-requires-3
     same-length
     returns)
