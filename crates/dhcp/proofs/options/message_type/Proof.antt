@@ -63,7 +63,7 @@ add-t15 : tie.Need-add-t15 Inv-scan μ-scan
 add-t15 c = search needs
 
 shared-slice-read-t19 : tie.Need-shared-slice-read-t19 Inv-scan μ-scan
-shared-slice-read-t19 c = search needs
+shared-slice-read-t19 c = omega arith
 
 scan-less-2 : tie.Need-scan-less-2 Inv-scan μ-scan
 scan-less-2 c = search needs
