@@ -19,6 +19,9 @@ pub fn walks(line: &[u8]) -> bool {
 }
 
 fn walks_in(line: &[u8], space: &mut [u8]) -> bool {
+    if line.len() < WRITTEN_AT {
+        return false;
+    }
     let ruled = u32be(line, 7) as usize;
     let len = ruled + answers::rest(line, WRITTEN_AT).len();
     if space.len() < len {
