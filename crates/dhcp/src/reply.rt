@@ -4,12 +4,12 @@ ghost use Prim.Native.Nat.{_≤_};
 ghost use lib.ListN.{length};
 ghost use Rattle.frames.specs.Answer.{Wrote};
 ghost use Rattle.frames.specs.Buffer.{put as Buffer·put, putIfFits};
-ghost use Rattle.fields.specs.Bytes.{be32 as Bytes·be32};
 ghost use Rattle.dhcp.specs.Rfc2131.{answering, buildReply};
 ghost use Rattle.dhcp.specs.Pieces.{firstFields, fixedPart, written, values as Pieces·values};
 ghost use Rattle.dhcp.specs.Rfc2132.{option};
 use crate::options::END;
 use crate::options::MESSAGE_TYPE;
+use fields::be32;
 use frames::Network;
 use frames::Verdict;
 use frames::put;
@@ -175,16 +175,5 @@ fn first_fields(guest: [u8; 4], gateway: [u8; 4], mac: [u8; 6], xid: u32) -> [u8
         mac[3],
         mac[4],
         mac[5],
-    ]
-}
-
-fn be32(n: u32) -> [u8; 4]
-    ensures { λ r. ⌜ r ≡ Bytes·be32 n ⌝ }
-{
-    [
-        (n / 65536 / 256) as u8,
-        (n / 65536 % 256) as u8,
-        (n % 65536 / 256) as u8,
-        (n % 65536 % 256) as u8,
     ]
 }

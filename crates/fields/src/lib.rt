@@ -1,7 +1,8 @@
 // Field readers for frames of any length: a byte past the end reads as 0. Whoever has to tell a
-// short frame from zeros looks at its length first, as document 01's order of tests does.
+// short frame from zeros looks at its length first, as document 01's order of tests does. Beside them
+// the bytes of a number, for whoever writes one.
 ghost use mathlib.Core.Path.{_≡_};
-ghost use Rattle.fields.specs.Bytes.{u8At, u16At, u32At, bytesAt};
+ghost use Rattle.fields.specs.Bytes.{u8At, u16At, u32At, bytesAt, be32 as Bytes·be32};
 ghost use Rattle.fields.specs.Rfc894.{sourceMac, typeOf, body};
 ghost use Rattle.fields.specs.Rfc791.{headerLength, protocolOf, sourceOf, targetOf};
 
@@ -42,6 +43,18 @@ pub fn u32be(buf: &[u8], at: usize) -> u32
         return 0;
     }
     (u16be(buf, at) as u32) * 65536 + (u16be(buf, at + 2) as u32)
+}
+
+// The four bytes of a number, as `u32be` reads them.
+pub fn be32(n: u32) -> [u8; 4]
+    ensures { λ r. ⌜ r ≡ Bytes·be32 n ⌝ }
+{
+    [
+        (n / 65536 / 256) as u8,
+        (n / 65536 % 256) as u8,
+        (n % 65536 / 256) as u8,
+        (n % 65536 % 256) as u8,
+    ]
 }
 
 pub fn mac_at(buf: &[u8], at: usize) -> [u8; 6]

@@ -48,6 +48,7 @@ copied at s b rest h e =
     rw (e, take-length s, take-all (length b - at) (drop at b) (le-of-eq (length-drop at b)), drop-of-length-le (drop at b) {i = length b - at} (le-of-eq (length-drop at b)))
     (simp (append-nil, append-assoc, drop-drop))
 
+-- a piece that is put where it fits, and left where it does not
 module _ (at : ℕ) (s b : List ℕ) where
   pub fits : at + length s ≤ length b → putIfFits at s b ≡ put at s b
   unfolding putIfFits

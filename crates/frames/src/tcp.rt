@@ -14,6 +14,7 @@ use crate::answer::Verdict;
 use crate::ipv4::make_ip_frame_in_place;
 use crate::udp::pseudo_header;
 use crate::write::put_three;
+use fields::be32;
 use sums::sum;
 
 // Who speaks to whom; `dst_mac` is the guest's.
@@ -138,19 +139,21 @@ fn segment_header(
     ensures { λ r. ⌜ r ≡ segmentHeader csum «src_port» «dst_port» seq ack flags ⌝ }
 {
     let words = ((HEADER + options_length(flags)) / 4) as u8;
+    let seq = be32(seq);
+    let ack = be32(ack);
     [
         (src_port / 256) as u8,
         (src_port % 256) as u8,
         (dst_port / 256) as u8,
         (dst_port % 256) as u8,
-        (seq / 65536 / 256) as u8,
-        (seq / 65536 % 256) as u8,
-        (seq % 65536 / 256) as u8,
-        (seq % 65536 % 256) as u8,
-        (ack / 65536 / 256) as u8,
-        (ack / 65536 % 256) as u8,
-        (ack % 65536 / 256) as u8,
-        (ack % 65536 % 256) as u8,
+        seq[0],
+        seq[1],
+        seq[2],
+        seq[3],
+        ack[0],
+        ack[1],
+        ack[2],
+        ack[3],
         words << 4,
         flags,
         (WINDOW / 256) as u8,

@@ -30,6 +30,7 @@ fn walks_in(line: &[u8], space: &mut [u8]) -> bool {
     is_walk(line, ruled, &mut space[..len])
 }
 
+// Behind the line's end there are no bytes to lay, so that seed 0 lays zeros.
 fn is_walk(line: &[u8], ruled: usize, message: &mut [u8]) -> bool {
     answers::lay_payload(line, line.len(), byte_at(line, 6), message);
     frames::put(message, ruled, answers::rest(line, WRITTEN_AT));

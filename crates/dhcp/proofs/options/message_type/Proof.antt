@@ -74,7 +74,9 @@ scan-again-2 c =
     let l = c .before .before .before .before .before .before .before .before .scan in
     let w = c .before .widened .ensures .0 in
     let other : decides (u8At s (l .at)) (u8At s (l .at + 1)) ≡ false =
-    ⊎-elim (λ came. no-value (u8At s (l .at)) (u8At s (l .at + 1)) (omega (arith, w, leb-false 1 (c .before .widened .result) (came .1 .left)))) (λ came. another-code (u8At s (l .at)) (u8At s (l .at + 1)) (came .left)) (c .if5 .came) in
+    ⊎-elim (λ came.
+    let short = leb-false _ (c .before .widened .result) (came .1 .left) in
+    no-value (u8At s (l .at)) (u8At s (l .at + 1)) (omega (arith, w, short))) (λ came. another-code (u8At s (l .at)) (u8At s (l .at + 1)) (came .left)) (c .if5 .came) in
     ap (λ (len : ℕ). walkAt s (l .at + (2 + len))) w
     ∙ sym (at-other s (l .at) (c .before .before .before .if4 .left) (c .before .before .before .before .before .if2 .left) (c .before .before .before .before .if3 .left) other)
     ∙ l .inv

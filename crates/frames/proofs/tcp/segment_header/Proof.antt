@@ -17,59 +17,66 @@ add-words c = search needs
 cast-words : tie.Need-cast-words
 cast-words c = search needs
 
-cast-t12 : tie.Need-cast-t12
-cast-t12 c = search needs
+be32-requires : tie.Need-be32-requires
+be32-requires c κs = search needs
 
-cast-t14 : tie.Need-cast-t14
-cast-t14 c = search needs
+be32-requires-2 : tie.Need-be32-requires-2
+be32-requires-2 c κs = search needs
 
-cast-t16 : tie.Need-cast-t16
-cast-t16 c = search needs
+cast-t15 : tie.Need-cast-t15
+cast-t15 c = search needs
 
-cast-t18 : tie.Need-cast-t18
-cast-t18 c = search needs
+cast-t17 : tie.Need-cast-t17
+cast-t17 c = search needs
+
+cast-t19 : tie.Need-cast-t19
+cast-t19 c = search needs
 
 cast-t21 : tie.Need-cast-t21
 cast-t21 c = search needs
 
-cast-t24 : tie.Need-cast-t24
-cast-t24 c = search needs
+array-read-t24 : tie.Need-array-read-t24
+array-read-t24 c = search needs
 
-cast-t27 : tie.Need-cast-t27
-cast-t27 c = search needs
+array-read-t27 : tie.Need-array-read-t27
+array-read-t27 c = search needs
 
-cast-t30 : tie.Need-cast-t30
-cast-t30 c = search needs
+array-read-t30 : tie.Need-array-read-t30
+array-read-t30 c = search needs
 
-cast-t33 : tie.Need-cast-t33
-cast-t33 c = search needs
+array-read-t33 : tie.Need-array-read-t33
+array-read-t33 c = search needs
 
-cast-t36 : tie.Need-cast-t36
-cast-t36 c = search needs
+array-read-t36 : tie.Need-array-read-t36
+array-read-t36 c = search needs
 
-cast-t39 : tie.Need-cast-t39
-cast-t39 c = search needs
+array-read-t39 : tie.Need-array-read-t39
+array-read-t39 c = search needs
 
-cast-t42 : tie.Need-cast-t42
-cast-t42 c = search needs
+array-read-t42 : tie.Need-array-read-t42
+array-read-t42 c = search needs
 
-cast-t45 : tie.Need-cast-t45
-cast-t45 c = search needs
+array-read-t45 : tie.Need-array-read-t45
+array-read-t45 c = search needs
 
-cast-t47 : tie.Need-cast-t47
-cast-t47 c = search needs
+cast-t48 : tie.Need-cast-t48
+cast-t48 c = search needs
 
-cast-t49 : tie.Need-cast-t49
-cast-t49 c = search needs
+cast-t50 : tie.Need-cast-t50
+cast-t50 c = search needs
 
-cast-t51 : tie.Need-cast-t51
-cast-t51 c = search needs
+cast-t52 : tie.Need-cast-t52
+cast-t52 c = search needs
+
+cast-t54 : tie.Need-cast-t54
+cast-t54 c = search needs
 
 returns : tie.Need-returns
 unfolding segmentHeader
 returns c =
-    let offset : (20 + c .options-length .result) / 4 * 16 % 256 ≡ (20 + length (options (c .before .args .flags))) / 4 * 16 = omega arith in
-    rw offset
+    let words = c .before .before .options-length .result in
+    let offset : (20 + words) / 4 * 16 % 256 ≡ (20 + length (options (c .before .before .before .args .flags))) / 4 * 16 = omega arith in
+    rw (offset, c .before .be32 .ensures, c .be322 .ensures)
 
 pub segment-header-spec : {M : Type 1} → statement M
 segment-header-spec =
@@ -78,20 +85,22 @@ segment-header-spec =
     options-length-requires
     add-words
     cast-words
-    cast-t12
-    cast-t14
-    cast-t16
-    cast-t18
+    be32-requires
+    be32-requires-2
+    cast-t15
+    cast-t17
+    cast-t19
     cast-t21
-    cast-t24
-    cast-t27
-    cast-t30
-    cast-t33
-    cast-t36
-    cast-t39
-    cast-t42
-    cast-t45
-    cast-t47
-    cast-t49
-    cast-t51
+    array-read-t24
+    array-read-t27
+    array-read-t30
+    array-read-t33
+    array-read-t36
+    array-read-t39
+    array-read-t42
+    array-read-t45
+    cast-t48
+    cast-t50
+    cast-t52
+    cast-t54
     returns)
