@@ -1,11 +1,16 @@
 -- Every row of the table of marked cases holds, by computation.
 use mathlib.Core.Path.{refl}
-use Rattle.sums.specs.Rfc1071.{words, sum, total, fold, checksum}
+use Rattle.dhcp.specs.Rfc2131.{reply}
 use Rattle.dhcp.specs.Rfc2132.{walk, walkFrom}
 use Rattle.frames.specs.Rfc768.{datagram}
-use Rattle.frames.specs.Rfc791.{header, headerWith}
+use Rattle.frames.specs.Rfc791.{header, headerWith, ipFrame}
+use Rattle.slirp.specs.Rfc792.{echo, echoWith}
+use Rattle.slirp.specs.Rfc826.{replyTo}
+use Rattle.slirp.specs.Rfc2131.{dhcpFrame}
+use Rattle.slirp.specs.Rules.{decision, arpDecision, ipDecision, icmpDecision, udpDecision, dhcpDecision, framing, outcomeOf, outcome}
+use Rattle.sums.specs.Rfc1071.{words, sum, total, fold, checksum}
 use Rattle.laws.specs.Marked.{All, marked}
 
 pub marked-hold : All marked
-unfolding checksum total words sum fold header headerWith datagram walk walkFrom
-marked-hold = (refl, (refl, (refl, (refl, (refl, (refl, (refl, (refl, (refl, (refl, (refl, (refl, (refl, (refl, (refl, (refl, tt))))))))))))))))
+unfolding checksum total words sum fold header headerWith ipFrame datagram walk walkFrom reply echo echoWith replyTo dhcpFrame decision arpDecision ipDecision icmpDecision udpDecision dhcpDecision framing outcomeOf outcome
+marked-hold = (refl, (refl, (refl, (refl, (refl, (refl, (refl, (refl, (refl, (refl, (refl, (refl, tt))))))))))))

@@ -1,41 +1,85 @@
--- The marked cases of document 01 ("Bytes to check"), in one table, and what it means that a row holds.
-use Prim.Native.Nat.{ℕ}
+-- The marked cases of document 01 ("Bytes to check"), in one table, and what it means that a row holds. The replies' bytes are the published Rust's.
+use Prim.Native.Nat.{ℕ, _+_}
 use mathlib.Core.Path.{_≡_}
 use mathlib.Core.List.{List, [], _∷_, _++_}
-use lib.ListN.{take, replicate}
-use Rattle.dhcp.specs.Rfc2131.{answering, cookie}
-use Rattle.dhcp.specs.Rfc2132.{Walked, typed, cut, walk}
-use Rattle.fields.specs.Rfc791.{headerChecksum}
+use lib.ListN.{length, replicate}
+use Rattle.fields.specs.Bytes.{be16}
+use Rattle.frames.specs.Answer.{Outcome, fresh}
+use Rattle.frames.specs.Network.{network}
+use Rattle.frames.specs.declared.answer.Guest.{Guest}
+use Rattle.slirp.specs.Rules.{outcome}
 use Rattle.sums.specs.Rfc1071.{checksum}
-use Rattle.frames.specs.Rfc768.{datagram}
-use Rattle.frames.specs.Rfc791.{header}
 
 pub data Case : Type 0 where
   -- the bytes summed and their checksum
   checksum-of : (bytes : List ℕ) (expected : ℕ) → Case
-  -- the fields of an IPv4 header and the checksum stored in it
-  ipv4-checksum-of : (total id protocol : ℕ) (source target : List ℕ) (expected : ℕ) → Case
-  -- the ports of a datagram, how many bytes of data, and its header
-  udp-header-of : (source target len : ℕ) (expected : List ℕ) → Case
-  -- what follows the cookie of a guest's message, and what the option walk comes to
-  options-of : (after : List ℕ) (expected : Walked) → Case
-  -- a message type, and the type of the reply to it, 0 where there is none
-  reply-type-of : (type expected : ℕ) → Case
-
--- a guest's message with these bytes after the cookie
-abbrev pub message : (after : List ℕ) → List ℕ
-message after = (1 ∷ replicate 235 0) ++ cookie ++ after
+  -- a guest's frame, its record and the room; the verdict's number and values, the bytes written, the record afterwards
+  call : (frame : List ℕ) (guest : Guest) (room : ℕ) (numbers bytes : List ℕ) (after : Guest) → Case
 
 abbrev pub Holds : Case → Type 0
 Holds (checksum-of bytes expected) = checksum bytes ≡ expected
-Holds (ipv4-checksum-of total id protocol source target expected) = headerChecksum (header total id protocol source target) ≡ expected
-Holds (udp-header-of source target len expected) = take 8 (datagram source target (replicate len 0)) ≡ expected
-Holds (options-of after expected) = walk (message after) ≡ expected
-Holds (reply-type-of type expected) = answering type ≡ expected
+Holds (call frame guest room numbers bytes after) =
+    outcome network guest frame room ≡ record { writing = record { numbers = numbers; image = bytes }; guest = after }
 
 abbrev pub All : List Case → Type 0
 All [] = Unit
 All (row ∷ rows) = Holds row × All rows
+
+-- the guest's MAC, and its record
+abbrev pub mac : List ℕ
+mac = 0x52 ∷ 0x54 ∷ 0x00 ∷ 0x12 ∷ 0x34 ∷ 0x56 ∷ []
+
+abbrev pub with : (id xid : ℕ) → Guest
+with id xid = record { mac = mac; id = id; xid = xid }
+
+-- A1: an ARP request from that MAC and 10.0.2.15 for 10.0.2.2, and the reply
+abbrev pub arpRequest : List ℕ
+arpRequest =
+    0xff ∷ 0xff ∷ 0xff ∷ 0xff ∷ 0xff ∷ 0xff ∷ 0x52 ∷ 0x54 ∷ 0x00 ∷ 0x12 ∷ 0x34 ∷ 0x56 ∷ 0x08 ∷ 0x06 ∷ 0x00 ∷ 0x01 ∷ 0x08 ∷ 0x00 ∷ 0x06 ∷ 0x04 ∷ 0x00 ∷ 0x01 ∷ 0x52 ∷ 0x54 ∷ 0x00 ∷ 0x12 ∷ 0x34 ∷ 0x56 ∷ 0x0a ∷ 0x00 ∷ 0x02 ∷ 0x0f ∷ 0x00 ∷ 0x00 ∷ 0x00 ∷ 0x00 ∷ 0x00 ∷ 0x00 ∷ 0x0a ∷ 0x00 ∷ 0x02 ∷ 0x02 ∷ []
+
+abbrev pub arpReply : List ℕ
+arpReply =
+    0x52 ∷ 0x54 ∷ 0x00 ∷ 0x12 ∷ 0x34 ∷ 0x56 ∷ 0x52 ∷ 0x54 ∷ 0x00 ∷ 0x00 ∷ 0x00 ∷ 0x01 ∷ 0x08 ∷ 0x06 ∷ 0x00 ∷ 0x01 ∷ 0x08 ∷ 0x00 ∷ 0x06 ∷ 0x04 ∷ 0x00 ∷ 0x02 ∷ 0x52 ∷ 0x54 ∷ 0x00 ∷ 0x00 ∷ 0x00 ∷ 0x01 ∷ 0x0a ∷ 0x00 ∷ 0x02 ∷ 0x02 ∷ 0x52 ∷ 0x54 ∷ 0x00 ∷ 0x12 ∷ 0x34 ∷ 0x56 ∷ 0x0a ∷ 0x00 ∷ 0x02 ∷ 0x0f ∷ []
+
+-- P1: a ping from 10.0.2.15, ICMP id and sequence 1, no data, and the reply
+abbrev pub ping : List ℕ
+ping =
+    (0x52 ∷ 0x54 ∷ 0x00 ∷ 0x00 ∷ 0x00 ∷ 0x01 ∷ 0x52 ∷ 0x54 ∷ 0x00 ∷ 0x12 ∷ 0x34 ∷ 0x56 ∷ 0x08 ∷ 0x00 ∷ [])
+    ++ (0x45 ∷ 0x00 ∷ 0x00 ∷ 0x1c ∷ 0x00 ∷ 0x01 ∷ 0x00 ∷ 0x00 ∷ 0x40 ∷ 0x01 ∷ 0x00 ∷ 0x00 ∷ 0x0a ∷ 0x00 ∷ 0x02 ∷ 0x0f ∷ 0x0a ∷ 0x00 ∷ 0x02 ∷ 0x02 ∷ [])
+    ++ (0x08 ∷ 0x00 ∷ 0xf7 ∷ 0xfd ∷ 0x00 ∷ 0x01 ∷ 0x00 ∷ 0x01 ∷ [])
+
+abbrev pub pong : List ℕ
+pong =
+    (0x52 ∷ 0x54 ∷ 0x00 ∷ 0x12 ∷ 0x34 ∷ 0x56 ∷ 0x52 ∷ 0x54 ∷ 0x00 ∷ 0x00 ∷ 0x00 ∷ 0x01 ∷ 0x08 ∷ 0x00 ∷ [])
+    ++ (0x45 ∷ 0x00 ∷ 0x00 ∷ 0x1c ∷ 0x00 ∷ 0x01 ∷ 0x40 ∷ 0x00 ∷ 0x40 ∷ 0x01 ∷ 0x22 ∷ 0xd0 ∷ 0x0a ∷ 0x00 ∷ 0x02 ∷ 0x02 ∷ 0x0a ∷ 0x00 ∷ 0x02 ∷ 0x0f ∷ [])  -- IPv4, with its checksum 0x22d0
+    ++ (0x00 ∷ 0x00 ∷ 0xff ∷ 0xfd ∷ 0x00 ∷ 0x01 ∷ 0x00 ∷ 0x01 ∷ [])  -- ICMP
+
+-- D0 to D5: a DHCP message with xid 0x11223344 and these bytes after the cookie, from another MAC than the record's
+abbrev pub message : (after : List ℕ) → List ℕ
+message after =
+    (0xff ∷ 0xff ∷ 0xff ∷ 0xff ∷ 0xff ∷ 0xff ∷ 0x02 ∷ 0x00 ∷ 0x00 ∷ 0x00 ∷ 0x00 ∷ 0x0b ∷ 0x08 ∷ 0x00 ∷ [])
+    ++ (0x45 ∷ 0x00 ∷ []) ++ be16 (268 + length after) ++ (0x00 ∷ 0x01 ∷ 0x00 ∷ 0x00 ∷ 0x40 ∷ 0x11 ∷ 0x00 ∷ 0x00 ∷ 0x00 ∷ 0x00 ∷ 0x00 ∷ 0x00 ∷ 0xff ∷ 0xff ∷ 0xff ∷ 0xff ∷ [])
+    ++ (0x00 ∷ 0x44 ∷ 0x00 ∷ 0x43 ∷ []) ++ be16 (248 + length after) ++ (0x00 ∷ 0x00 ∷ [])
+    ++ (0x01 ∷ 0x01 ∷ 0x06 ∷ 0x00 ∷ 0x11 ∷ 0x22 ∷ 0x33 ∷ 0x44 ∷ []) ++ replicate 228 0 ++ (0x63 ∷ 0x82 ∷ 0x53 ∷ 0x63 ∷ []) ++ after
+
+-- the reply of this type, 342 bytes
+abbrev pub dhcpReply : (type : ℕ) → List ℕ
+dhcpReply type =
+    (0x02 ∷ 0x00 ∷ 0x00 ∷ 0x00 ∷ 0x00 ∷ 0x0b ∷ 0x52 ∷ 0x54 ∷ 0x00 ∷ 0x00 ∷ 0x00 ∷ 0x01 ∷ 0x08 ∷ 0x00 ∷ [])
+    ++ (0x45 ∷ 0x00 ∷ 0x01 ∷ 0x48 ∷ 0x00 ∷ 0x01 ∷ 0x40 ∷ 0x00 ∷ 0x40 ∷ 0x11 ∷ 0x20 ∷ 0xa4 ∷ 0x0a ∷ 0x00 ∷ 0x02 ∷ 0x02 ∷ 0x0a ∷ 0x00 ∷ 0x02 ∷ 0xff ∷ [])  -- D0: IPv4, with its checksum 0x20a4
+    ++ (0x00 ∷ 0x44 ∷ 0x00 ∷ 0x43 ∷ 0x01 ∷ 0x34 ∷ 0x00 ∷ 0x00 ∷ [])  -- D0: UDP
+    ++ (0x02 ∷ 0x01 ∷ 0x06 ∷ 0x00 ∷ 0x11 ∷ 0x22 ∷ 0x33 ∷ 0x44 ∷ []) ++ replicate 8 0
+    ++ (0x0a ∷ 0x00 ∷ 0x02 ∷ 0x0f ∷ 0x0a ∷ 0x00 ∷ 0x02 ∷ 0x02 ∷ 0x00 ∷ 0x00 ∷ 0x00 ∷ 0x00 ∷ [])
+    ++ (0x52 ∷ 0x54 ∷ 0x00 ∷ 0x12 ∷ 0x34 ∷ 0x56 ∷ []) ++ replicate 202 0
+    ++ (0x63 ∷ 0x82 ∷ 0x53 ∷ 0x63 ∷ [])
+    ++ (0x35 ∷ 0x01 ∷ type ∷ [])
+    ++ (0x36 ∷ 0x04 ∷ 0x0a ∷ 0x00 ∷ 0x02 ∷ 0x02 ∷ [])
+    ++ (0x33 ∷ 0x04 ∷ 0x00 ∷ 0x01 ∷ 0x51 ∷ 0x80 ∷ [])
+    ++ (0x01 ∷ 0x04 ∷ 0xff ∷ 0xff ∷ 0xff ∷ 0x00 ∷ [])
+    ++ (0x03 ∷ 0x04 ∷ 0x0a ∷ 0x00 ∷ 0x02 ∷ 0x02 ∷ [])
+    ++ (0x06 ∷ 0x04 ∷ 0x0a ∷ 0x00 ∷ 0x02 ∷ 0x02 ∷ [])
+    ++ (0xff ∷ [])
+    ++ replicate 26 0
 
 abbrev pub marked : List Case
 marked =
@@ -44,15 +88,11 @@ marked =
     ∷ checksum-of (0x00 ∷ 0x01 ∷ []) 0xfffe  -- C3
     ∷ checksum-of (0xff ∷ 0xff ∷ []) 0  -- C4
     ∷ checksum-of (0xff ∷ 0xff ∷ 0x00 ∷ 0x01 ∷ []) 0xfffe  -- C5
-    ∷ ipv4-checksum-of 28 1 1 (10 ∷ 0 ∷ 2 ∷ 2 ∷ []) (10 ∷ 0 ∷ 2 ∷ 15 ∷ []) 0x22d0  -- P1, its IPv4 header: an echo of 8 bytes
-    ∷ ipv4-checksum-of 328 1 17 (10 ∷ 0 ∷ 2 ∷ 2 ∷ []) (10 ∷ 0 ∷ 2 ∷ 255 ∷ []) 0x20a4  -- D0, its IPv4 header: a datagram of 308 bytes
-    ∷ udp-header-of 68 67 300 (0x00 ∷ 0x44 ∷ 0x00 ∷ 0x43 ∷ 0x01 ∷ 0x34 ∷ 0x00 ∷ 0x00 ∷ [])  -- D0, its UDP header
-    ∷ options-of (0x35 ∷ 0x01 ∷ 0x01 ∷ 0xff ∷ []) (typed 1)  -- D1: type 1,
-    ∷ reply-type-of 1 2  -- which gets an offer
-    ∷ options-of (0x35 ∷ 0x01 ∷ []) (cut 240)  -- D2: 7, place 240
-    ∷ options-of (0x35 ∷ []) (typed 0)  -- D3: no type,
-    ∷ reply-type-of 0 0  -- which gets a drop
-    ∷ options-of (0x35 ∷ 0x00 ∷ 0x35 ∷ 0x01 ∷ 0x03 ∷ []) (typed 3)  -- D4: type 3,
-    ∷ reply-type-of 3 5  -- which gets an acknowledgement
-    ∷ options-of (0x00 ∷ 0x00 ∷ 0x35 ∷ 0x05 ∷ 0x01 ∷ []) (typed 1)  -- D5: type 1, as D1
+    ∷ call arpRequest (fresh mac) 2048 (1 ∷ 42 ∷ []) arpReply (with 1 0)  -- A1
+    ∷ call ping (fresh mac) 42 (1 ∷ 42 ∷ []) pong (with 2 0)  -- P1
+    ∷ call (message (0x35 ∷ 0x01 ∷ 0x01 ∷ 0xff ∷ [])) (fresh mac) 342 (1 ∷ 342 ∷ []) (dhcpReply 2) (with 2 0x11223344)  -- D0, D1: an offer
+    ∷ call (message (0x35 ∷ 0x01 ∷ [])) (fresh mac) 342 (7 ∷ 240 ∷ []) [] (with 1 0)  -- D2: 7, place 240
+    ∷ call (message (0x35 ∷ [])) (fresh mac) 342 (0 ∷ []) [] (with 1 0x11223344)  -- D3: a drop
+    ∷ call (message (0x35 ∷ 0x00 ∷ 0x35 ∷ 0x01 ∷ 0x03 ∷ [])) (fresh mac) 1514 (1 ∷ 342 ∷ []) (dhcpReply 5) (with 2 0x11223344)  -- D4: an acknowledgement
+    ∷ call (message (0x00 ∷ 0x00 ∷ 0x35 ∷ 0x05 ∷ 0x01 ∷ [])) (fresh mac) 2048 (1 ∷ 342 ∷ []) (dhcpReply 2) (with 2 0x11223344)  -- D5: an offer
     ∷ []

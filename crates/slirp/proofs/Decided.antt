@@ -1,0 +1,35 @@
+-- What comes of a frame once its decision is known.
+use Prim.Native.Nat.{ℕ, _+_, _≤_}
+use mathlib.Core.Path.{_≡_, refl, sym, subst}
+use mathlib.Core.List.{List}
+use native.Mathlib.Omega.{arith}
+use lib.ListN.{length}
+use Rattle.frames.specs.Answer.{Meets, paper}
+use Rattle.frames.specs.declared.answer.Answer.{Answer}
+use Rattle.frames.specs.declared.answer.Guest.{Guest}
+use Rattle.frames.specs.declared.answer.Verdict.{Verdict}
+use Rattle.frames.specs.declared.network.Network.{Network}
+use Rattle.slirp.specs.Rules.{decision, outcome, outcomeOf, unwritten}
+use Rattle.slirp.specs.declared.decision.Decision.{Decision}
+use Rattle.slirp.specs.declared.decision.Decision.the-variants.{EchoReply}
+use Rattle.slirp.proofs.Says.{Says, says}
+
+-- the outcome is the decision's
+pub as-decided : (net : Network) (guest : Guest) (frame before after : List ℕ) (answer : Answer) (d : Decision) → decision net frame ≡ d
+    → Meets (outcomeOf net guest frame (length before) d) before after answer
+    → Meets (outcome net guest frame (length before)) before after answer
+unfolding outcome
+as-decided net guest frame before after answer d e m =
+    subst (λ (x : Decision). Meets (outcomeOf net guest frame (length before) x) before after answer) (sym e) m
+
+-- nothing is written
+pub left-alone : (v : Verdict) (numbers : List ℕ) (guest : Guest) (before : List ℕ) → paper v ≡ numbers
+    → Meets (unwritten numbers guest) before before (record { verdict = v; guest = guest })
+left-alone v numbers guest before e = record { wrote = record { numbers = e; bytes = refl }; guest = refl }
+
+-- an echo request lies in its frame, and is not too long
+pub request-inside : (net : Network) (frame : List ℕ) (start : ℕ) → decision net frame ≡ EchoReply start → (start + 4 ≤ length frame) × (length frame ≤ start + 65515)
+unfolding Says
+request-inside net frame start e =
+    let s = subst (Says frame) e (says net frame) in
+    (omega (arith, s .0 .ends, s .0 .whole), s .1)

@@ -1,0 +1,87 @@
+-- `icmp::handle_icmp` meets its contract: the echo put at 34 is framed in place.
+use Prim.Native.Nat.{ℕ, _+_, _-_, _<_, _≤_}
+use mathlib.Core.Path.{_≡_, refl, ap, sym, _∙_}
+use mathlib.Core.List.{List}
+use native.Mathlib.Omega.{arith}
+use lib.ListN.{length, drop, length-drop}
+use lib.ListN.{length-map}
+use Rattle.fields.specs.Rfc791.{sourceOf}
+use Rattle.fields.specs.Rfc894.{body, sourceMac}
+use Rattle.frames.specs.Buffer.{put}
+use Rattle.slirp.specs.Rfc792.{echo}
+use Rattle.slirp.proofs.Echo.{from-on, length-echo}
+use Rattle.slirp.proofs.Framing.{too-small, framed-in-place}
+use borrow.Author.Needs.{needs}
+use Rattle.slirp.proofs.icmp.handle_icmp.Statement.{statement}
+use Rattle.slirp.proofs.icmp.handle_icmp.Tie as tie
+
+sub-len : tie.Need-sub-len
+sub-len c = search needs
+
+add-if1 : tie.Need-add-if1
+add-if1 c = search needs
+
+add-t11 : tie.Need-add-t11
+add-t11 c = search needs
+
+returns : tie.Need-returns
+returns c =
+    let a = c .before .before .before .args in
+    let cut = length-drop (a .start) (a .frame .now) in
+    too-small _ _ _ _ _ _ (34 + (length (a .frame .now) - a .start)) (omega (arith, cut)) (omega (arith, cut, c .if1 .taken))
+
+sub-put-echo : tie.Need-sub-put-echo
+sub-put-echo c = search needs
+
+part-put-echo-start : tie.Need-part-put-echo-start
+part-put-echo-start c = search needs
+
+part-put-echo-end : tie.Need-part-put-echo-end
+part-put-echo-end c = search needs
+
+put-echo-requires : tie.Need-put-echo-requires
+put-echo-requires c κs = search needs
+
+eth-src-requires : tie.Need-eth-src-requires
+eth-src-requires c κs = search needs
+
+ip-src-requires : tie.Need-ip-src-requires
+ip-src-requires c κs = search needs
+
+make-ip-frame-in-place-requires : tie.Need-make-ip-frame-in-place-requires
+make-ip-frame-in-place-requires c κs = search needs
+
+same-length : tie.Need-same-length
+same-length c = search needs
+
+returns-2 : tie.Need-returns-2
+returns-2 c =
+    let start = c .before .before .before .before .before .before .before .before .before .before .before .before .before .before .before in
+    let a = start .args in
+    let frame = a .frame .now in
+    let request = drop (a .start) frame in
+    let cut = length-drop (a .start) frame in
+    let pre = start .pre in
+    let four = sym (length-map (a .net .gateway) _) ∙ start .good .0 .1 .1 .0 .1 .0 .1 in
+    let long = length-echo request (omega (arith, cut, pre)) in
+    framed-in-place (sourceMac frame) (a .net .gateway) (sourceOf (body frame)) refl four refl (a .guest) (a .guest) (34 + length request) 1 (echo request) (a .reply .now)
+    (length frame - a .start) _ _ _ _ _ _ (c .before .before .before .before .before .eth-src .ensures) refl (c .before .before .before .before .ip-src .ensures) (omega (arith, cut, long))
+    (c .before .before .before .before .before .before .before .before .before .put-echo .ensures ∙ ap (λ (s : List ℕ). put 34 (echo s) (a .reply .now)) (from-on (a .start) frame)) (omega (arith, cut)) (omega (arith, pre)) (omega (arith, cut, c .before .before .before .before .before .before .before .before .before .before .before .before .if1 .left)) (c .before .before .make-ip-frame-in-place .ensures)
+
+pub handle-icmp-spec : {M : Type 1} → statement M
+handle-icmp-spec =
+    tie.close
+    (tie.spec
+    sub-len
+    add-if1
+    add-t11
+    returns
+    sub-put-echo
+    part-put-echo-start
+    part-put-echo-end
+    put-echo-requires
+    eth-src-requires
+    ip-src-requires
+    make-ip-frame-in-place-requires
+    same-length
+    returns-2)

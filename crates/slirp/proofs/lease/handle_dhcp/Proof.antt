@@ -1,0 +1,74 @@
+-- `lease::handle_dhcp` meets its contract: the datagram put at 34 is framed in place.
+use Prim.Native.Nat.{ℕ, _+_, _≤_}
+use mathlib.Core.Path.{_≡_, refl, ap, sym, _∙_}
+use mathlib.Core.List.{List}
+use native.Mathlib.Omega.{arith}
+use lib.ListN.{length}
+use lib.ListN.{length-map}
+use Rattle.dhcp.specs.Rfc2131.{reply}
+use Rattle.dhcp.proofs.ReadBack.{FourBytes, reply-reads-back}
+use Rattle.fields.specs.Rfc894.{sourceMac}
+use Rattle.frames.specs.Answer.{Meets, spending}
+use Rattle.frames.specs.Network.{broadcastOf}
+use Rattle.frames.specs.Rfc768.{datagram}
+use Rattle.frames.proofs.Lengths.{length-datagram}
+use Rattle.slirp.specs.Rfc2131.{dhcpFrame}
+use Rattle.slirp.specs.Rules.{noting}
+use Rattle.slirp.proofs.Framing.{too-small, framed-in-place}
+use borrow.Author.Needs.{needs}
+use Rattle.slirp.proofs.lease.handle_dhcp.Statement.{statement}
+use Rattle.slirp.proofs.lease.handle_dhcp.Tie as tie
+
+returns : tie.Need-returns
+returns c = too-small _ _ 342 _ _ _ 342 refl (c .if1 .taken)
+
+put-datagram-requires : tie.Need-put-datagram-requires
+put-datagram-requires c κs = search needs
+
+noted-requires : tie.Need-noted-requires
+noted-requires c κs = search needs
+
+eth-src-requires : tie.Need-eth-src-requires
+eth-src-requires c κs = search needs
+
+broadcast-requires : tie.Need-broadcast-requires
+broadcast-requires c κs = search needs
+
+make-ip-frame-in-place-requires : tie.Need-make-ip-frame-in-place-requires
+make-ip-frame-in-place-requires c κs = search needs
+
+same-length : tie.Need-same-length
+same-length c = search needs
+
+returns-2 : tie.Need-returns-2
+unfolding dhcpFrame
+returns-2 c =
+    let start = c .before .before .before .before .before .before .before .before .before .before .before .before .before .before .before .before in
+    let a = start .args in
+    let frame = a .frame .now in
+    let message = reply (a .net) (a .guest .mac) (a .xid) (a .kind) in
+    let net = start .good .0 .1 .1 in
+    let four : FourBytes (a .net) =
+    record {
+      gateway = sym (length-map (a .net .gateway) _) ∙ net .0 .1 .0 .1;
+      guest = sym (length-map (a .net .guest) _) ∙ net .1 .0 .1 .0 .1;
+      mask = sym (length-map (a .net .mask) _) ∙ net .1 .1 .0 .1 .0 .1;
+    } in
+    let six = sym (length-map (a .guest .mac) _) ∙ start .good .1 .0 .1 .1 .0 .1 .0 .1 in
+    let long : 308 ≡ length (datagram 68 67 message) = omega (arith, reply-reads-back (a .net) (a .guest .mac) (a .xid) (a .kind) four six .long, length-datagram 68 67 message) in
+    let made = rw (c .before .before .before .before .before .before .noted .ensures) at (c .before .before .make-ip-frame-in-place .ensures) in
+    framed-in-place (sourceMac frame) (a .net .gateway) (broadcastOf (a .net)) refl (four .gateway) refl (a .guest) (noting (a .xid) (a .guest)) 342 17 (datagram 68 67 message) (a .reply .now)
+    308 _ _ _ _ _ _ (c .before .before .before .before .before .eth-src .ensures) refl (c .before .before .before .before .broadcast .ensures) long (c .before .before .before .before .before .before .before .before .before .put-datagram .ensures) refl (omega arith) (c .before .before .before .before .before .before .before .before .before .before .before .before .before .if1 .left) made
+
+pub handle-dhcp-spec : {M : Type 1} → statement M
+handle-dhcp-spec =
+    tie.close
+    (tie.spec
+    returns
+    put-datagram-requires
+    noted-requires
+    eth-src-requires
+    broadcast-requires
+    make-ip-frame-in-place-requires
+    same-length
+    returns-2)

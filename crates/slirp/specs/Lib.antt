@@ -1,0 +1,5 @@
+pub mod Same
+pub mod Rfc826
+pub mod Rfc792
+pub mod Rfc2131
+pub mod Rules

@@ -1,0 +1,72 @@
+// The entry: one call for one frame.
+ghost use mathlib.Core.Path.{_≡_};
+ghost use lib.ListN.{length};
+ghost use Rattle.frames.specs.Answer.{Meets};
+ghost use Rattle.frames.specs.Network.{network};
+ghost use Rattle.slirp.specs.Rules.{outcome, outcomeOf};
+use crate::arp::handle_arp;
+use crate::decision::Decision;
+use crate::decision::decide;
+use crate::icmp::handle_icmp;
+use crate::lease::handle_dhcp;
+use crate::lease::noted;
+use frames::Answer;
+use frames::Guest;
+use frames::Network;
+use frames::Verdict;
+
+// What a frame of this guest gets, on document 01's network.
+pub fn handle(guest: Guest, frame: &[u8], reply: &mut [u8]) -> Answer
+    ensures { λ r. ⌜ Meets
+        (outcome network guest (now (frame .entry)) (length (now (reply .entry))))
+        (now (reply .entry)) (now (reply .exit)) r ⌝ }
+{
+    handle_on(Network::new(), guest, frame, reply)
+}
+
+// The same on any network.
+pub fn handle_on(net: Network, guest: Guest, frame: &[u8], reply: &mut [u8]) -> Answer
+    ensures { λ r. ⌜ Meets
+        (outcome net guest (now (frame .entry)) (length (now (reply .entry))))
+        (now (reply .entry)) (now (reply .exit)) r ⌝ }
+{
+    match decide(net, frame) {
+        Decision::Drop => Answer {
+            verdict: Verdict::Drop,
+            guest: guest,
+        },
+        Decision::DropNoting(xid) => Answer {
+            verdict: Verdict::Drop,
+            guest: noted(guest, xid),
+        },
+        Decision::ArpReply => handle_arp(net, guest, frame, reply),
+        Decision::EchoReply { start } => handle_icmp(net, guest, frame, start, reply),
+        Decision::DhcpReply { xid, kind } => handle_dhcp(net, guest, frame, xid, kind, reply),
+        Decision::Dns { start, len } => Answer {
+            verdict: Verdict::Dns {
+                start: start,
+                len: len,
+            },
+            guest: guest,
+        },
+        Decision::Relay { start, len } => Answer {
+            verdict: Verdict::Relay {
+                start: start,
+                len: len,
+            },
+            guest: guest,
+        },
+        Decision::Tcp(len) => Answer {
+            verdict: Verdict::Tcp(len),
+            guest: guest,
+        },
+        Decision::TooLong(len) => Answer {
+            verdict: Verdict::TooLong(len),
+            guest: guest,
+        },
+        Decision::CutType(place) => Answer {
+            verdict: Verdict::CutType(place),
+            guest: guest,
+        },
+    }
+}

@@ -1,0 +1,90 @@
+// DHCP: the reply in its datagram, in its frame.
+ghost use mathlib.Core.Path.{_≡_};
+ghost use Prim.Native.Nat.{_≤_};
+ghost use lib.ListN.{length};
+ghost use Rattle.dhcp.specs.Rfc2131.{reply as Rfc2131·reply};
+ghost use Rattle.frames.specs.Answer.{Meets, spent};
+ghost use Rattle.frames.specs.Buffer.{put as Buffer·put};
+ghost use Rattle.frames.specs.Rfc768.{datagram};
+ghost use Rattle.slirp.specs.Rfc2131.{dhcpFrame};
+ghost use Rattle.slirp.specs.Rules.{framing, noting};
+use dhcp::build_reply;
+use fields::eth_src;
+use frames::Answer;
+use frames::Guest;
+use frames::Network;
+use frames::Verdict;
+use frames::make_ip_frame_in_place;
+use frames::make_udp_payload;
+
+const IP_PROTO_UDP: u8 = 17;
+
+// As in the Rust, from the client's port to the server's.
+const SOURCE_PORT: u16 = 68;
+
+const DESTINATION_PORT: u16 = 67;
+
+const DATAGRAM_AT: usize = 34;
+
+const DATAGRAM: usize = 8 + 300;
+
+const FRAME: usize = DATAGRAM_AT + DATAGRAM;
+
+// A reply of type `kind` to the message whose xid is `xid`, in `frame`.
+pub fn handle_dhcp(
+    net: Network,
+    guest: Guest,
+    frame: &[u8],
+    xid: u32,
+    kind: u8,
+    reply: &mut [u8],
+) -> Answer
+    ensures { λ r. ⌜ Meets
+        (framing guest (spent (noting xid guest)) 342 (length (now (reply .entry))) (dhcpFrame net guest (now (frame .entry)) xid kind))
+        (now (reply .entry)) (now (reply .exit)) r ⌝ }
+{
+    if reply.len() < FRAME {
+        return Answer {
+            verdict: Verdict::NoRoom(FRAME),
+            guest: guest,
+        };
+    }
+    let mac = guest.mac;
+    let gateway = net.gateway;
+    put_datagram(net, mac, xid, kind, reply);
+    make_ip_frame_in_place(
+        noted(guest, xid),
+        eth_src(frame),
+        gateway,
+        net.broadcast(),
+        IP_PROTO_UDP,
+        DATAGRAM,
+        reply,
+    )
+}
+
+fn put_datagram(net: Network, mac: [u8; 6], xid: u32, kind: u8, reply: &mut [u8])
+    requires { ⌜ 342 ≤ length (now reply) ⌝ }
+    ensures { λ _. ⌜ now (reply .exit) ≡ Buffer·put 34 (datagram 68 67 (Rfc2131·reply net mac xid kind)) (now (reply .entry)) ⌝ }
+{
+    let mut message = [0; 300];
+    build_reply(net, mac, xid, kind, &mut message);
+    make_udp_payload(
+        SOURCE_PORT,
+        DESTINATION_PORT,
+        &message,
+        &mut reply[DATAGRAM_AT..],
+    );
+}
+
+// The record with the message's xid.
+pub fn noted(guest: Guest, xid: u32) -> Guest
+    ensures { λ r. ⌜ r ≡ noting xid guest ⌝ }
+{
+    let mac = guest.mac;
+    Guest {
+        mac: mac,
+        id: guest.id,
+        xid: xid,
+    }
+}
