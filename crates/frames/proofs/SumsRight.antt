@@ -23,7 +23,7 @@ fold-checksum (suc s) =
     fold-pos (suc s + (65535 - fold (suc s))) (omega arith) ∙ omega arith
 
 -- bytes whose sum is that of others plus their checksum sum right
-sums-right : (s t : List ℕ) → total s ≡ total t + checksum t → SumsRight s
+pub sums-right : (s t : List ℕ) → total s ≡ total t + checksum t → SumsRight s
 unfolding SumsRight checksum
 sums-right s t e = ap fold e ∙ fold-checksum (total t)
 

@@ -3,13 +3,13 @@ use Prim.Native.Nat.{ℕ, _+_, _≤_}
 use mathlib.Core.Path.{_≡_, refl, sym, subst}
 use mathlib.Core.List.{List}
 use native.Mathlib.Omega.{arith}
-use lib.ListN.{length}
+use lib.ListN.{length, length-drop}
 use Rattle.frames.specs.Answer.{Meets, paper}
 use Rattle.frames.specs.declared.answer.Answer.{Answer}
 use Rattle.frames.specs.declared.answer.Guest.{Guest}
 use Rattle.frames.specs.declared.answer.Verdict.{Verdict}
 use Rattle.frames.specs.declared.network.Network.{Network}
-use Rattle.slirp.specs.Rules.{decision, outcome, outcomeOf, unwritten}
+use Rattle.slirp.specs.Rules.{payloadAt, decision, outcome, outcomeOf, unwritten}
 use Rattle.slirp.specs.declared.decision.Decision.{Decision}
 use Rattle.slirp.specs.declared.decision.Decision.the-variants.{EchoReply}
 use Rattle.slirp.proofs.Says.{Says, says}
@@ -31,5 +31,6 @@ left-alone v numbers guest before e = record { wrote = record { numbers = e; byt
 pub request-inside : (net : Network) (frame : List ℕ) (start : ℕ) → decision net frame ≡ EchoReply start → (start + 4 ≤ length frame) × (length frame ≤ start + 65515)
 unfolding Says
 request-inside net frame start e =
-    let s = subst (Says frame) e (says net frame) in
-    (omega (arith, s .0 .ends, s .0 .whole), s .1)
+    let s = subst (Says net frame) e (says net frame) in
+    let cut = length-drop (payloadAt frame) frame in
+    (omega (arith, cut, s .0 .there, s .0 .whole, s .1), omega (arith, cut, s .0 .there, s .1, s .2))

@@ -6,3 +6,5 @@ pub mod Echo
 pub mod LeasePieces
 pub mod Says
 pub mod Decided
+pub mod OneAnswer
+pub mod ReadBack

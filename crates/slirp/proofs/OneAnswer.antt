@@ -1,0 +1,16 @@
+-- The contract of `handle` leaves one answer, on every network: `handle` is `handle_on` on document 01's.
+use mathlib.Core.Path.{_≡_}
+use Prim.Native.Nat.{ℕ}
+use mathlib.Core.List.{List}
+use lib.ListN.{length}
+use Rattle.frames.specs.Answer.{Meets}
+use Rattle.frames.specs.declared.answer.Answer.{Answer}
+use Rattle.frames.specs.declared.answer.Guest.{Guest}
+use Rattle.frames.specs.declared.network.Network.{Network}
+use Rattle.frames.proofs.OneAnswer.{one-outcome}
+use Rattle.slirp.specs.Rules.{outcome}
+
+pub handle-answers-once : (net : Network) (guest : Guest) (frame before after after′ : List ℕ) (a a′ : Answer)
+    → Meets (outcome net guest frame (length before)) before after a
+    → Meets (outcome net guest frame (length before)) before after′ a′ → (a ≡ a′) × (after ≡ after′)
+handle-answers-once net guest frame before after after′ a a′ = one-outcome _ before after after′ a a′
