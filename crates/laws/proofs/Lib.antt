@@ -1,1 +1,2 @@
 pub mod MarkedHold
+pub mod Demand1

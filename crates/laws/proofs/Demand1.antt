@@ -1,0 +1,307 @@
+-- Demand 1, of whatever meets the contract of `handle`: one answer of the numbers 0 to 7, and what it changes.
+use Prim.Native.Nat.{ℕ, _+_, _%_, _≤_, _<_}
+use mathlib.Core.Path.{_≡_, refl, ap, sym, subst, _∙_}
+use mathlib.Core.Bool.{Bool, true, false}
+use mathlib.Core.List.{List, [], _∷_, _++_}
+use native.Mathlib.Omega.{arith}
+use borrow.Author.Tests.{ltb-true, ltb-false, lt-ltb, le-ltb}
+use lib.Dec.{ltb}
+use lib.ListN.{length, getD, take, drop, length-drop}
+use lib.Seq.{take-append-seam, drop-append-seam}
+use Rattle.dhcp.proofs.ReadBack.{FourBytes}
+use Rattle.dhcp.specs.Rfc2132.{cut, walk}
+use Rattle.fields.specs.Rfc791.{protocolOf}
+use Rattle.fields.specs.Rfc894.{body, typeOf}
+use Rattle.fields.specs.Rfc2131.{transactionId}
+use Rattle.frames.specs.Answer.{paper, Meets, spent}
+use Rattle.frames.specs.declared.answer.Answer.{Answer}
+use Rattle.frames.specs.declared.answer.Guest.{Guest}
+use Rattle.frames.specs.declared.answer.Verdict.{Verdict}
+use Rattle.frames.specs.declared.answer.Verdict.the-variants as Verdict
+use Rattle.frames.specs.declared.network.Network.{Network}
+use Rattle.frames.proofs.OneAnswer.{paper-one-to-one}
+use Rattle.slirp.specs.Rules.{payload, datagramData, decision, framing, noting, unwritten, outcome, outcomeOf}
+use Rattle.slirp.specs.Rfc792.{echo}
+use Rattle.slirp.specs.Seen.{Carries, Message, Handed, EchoAsked}
+use Rattle.slirp.specs.declared.decision.Decision.{Decision}
+use Rattle.slirp.specs.declared.decision.Decision.the-variants.{Drop, DropNoting, ArpReply, EchoReply, DhcpReply, Dns, Relay, Tcp, TooLong, CutType}
+use Rattle.slirp.proofs.Echo.{length-echo}
+use Rattle.slirp.proofs.ReadBack.{arp-reads-back, echo-frame-reads-back, dhcp-reads-back}
+use Rattle.slirp.proofs.Says.{Says, says, too-long-decided}
+use Rattle.laws.specs.Table.{built, replyAtAmpleRoom, Returned, Unchanged, AtMostXid, ReplyBytesIdXid, Changed}
+
+-- every answer is one of the numbers 0 to 7
+pub numbered : (v : Verdict) → getD (paper v) 0 0 ≤ 7
+unfolding paper
+numbered Verdict.Drop = omega arith
+numbered (Verdict.Reply n) = omega arith
+numbered (Verdict.Dns start len) = omega arith
+numbered (Verdict.Relay start len) = omega arith
+numbered (Verdict.Tcp n) = omega arith
+numbered (Verdict.NoRoom needed) = omega arith
+numbered (Verdict.TooLong len) = omega arith
+numbered (Verdict.CutType place) = omega arith
+
+-- a frame that is to be built: 5 with less room than it needs, else 1
+data Framed (guest next : Guest) (image before after : List ℕ) (answer : Answer) : Type 0 where
+  short : length before < length image → answer .verdict ≡ Verdict.NoRoom (length image) → answer .guest ≡ guest → after ≡ before → Framed guest next image before after answer
+  fits : length image ≤ length before → answer .verdict ≡ Verdict.Reply (length image) → answer .guest ≡ next → after ≡ image ++ drop (length image) before → Framed guest next image before after answer
+
+framed : (guest next : Guest) (need : ℕ) (image before after : List ℕ) (answer : Answer) → length image ≡ need
+    → Meets (framing guest next need (length before) image) before after answer → Framed guest next image before after answer
+unfolding framing paper
+framed guest next need image before after answer e m = go (ltb (length before) need) refl
+  where
+    go : (t : Bool) → ltb (length before) need ≡ t → Framed guest next image before after answer
+    go true f =
+        let m′ = rw f at m in
+        short (omega (arith, ltb-true (length before) need f, e)) (paper-one-to-one _ (Verdict.NoRoom (length image)) (m′ .wrote .numbers ∙ ap (λ (n : ℕ). 5 ∷ n ∷ []) (sym e))) (m′ .guest) (m′ .wrote .bytes)
+    go false f =
+        let m′ = rw f at m in
+        fits (omega (arith, ltb-false (length before) need f, e)) (paper-one-to-one _ (Verdict.Reply (length image)) (m′ .wrote .numbers ∙ ap (λ (n : ℕ). 1 ∷ n ∷ []) (sym e))) (m′ .guest) (m′ .wrote .bytes)
+
+-- nothing is written
+record Quiet (v : Verdict) (next : Guest) (before after : List ℕ) (answer : Answer) : Type 0 where
+  verdict-is : answer .verdict ≡ v
+  guest-is : answer .guest ≡ next
+  untouched : after ≡ before
+
+module _ (net : Network) (guest : Guest) (frame before after : List ℕ) (answer : Answer) where
+  -- the answer, by the decision behind it
+  Came : Decision → Type 0
+  Came Drop = Quiet Verdict.Drop guest before after answer
+  Came (DropNoting xid) = Quiet Verdict.Drop (noting xid guest) before after answer
+  Came ArpReply = Framed guest guest (built net guest frame ArpReply) before after answer
+  Came (EchoReply start) = Framed guest (spent guest) (built net guest frame (EchoReply start)) before after answer
+  Came (DhcpReply xid type) = Framed guest (spent (noting xid guest)) (built net guest frame (DhcpReply xid type)) before after answer
+  Came (Dns start len) = Quiet (Verdict.Dns start len) guest before after answer
+  Came (Relay start len) = Quiet (Verdict.Relay start len) guest before after answer
+  Came (Tcp len) = Quiet (Verdict.Tcp len) guest before after answer
+  Came (TooLong len) = Quiet (Verdict.TooLong len) guest before after answer
+  Came (CutType place) = Quiet (Verdict.CutType place) guest before after answer
+
+  quiet : (v : Verdict) (next : Guest) → Meets (unwritten (paper v) next) before after answer → Quiet v next before after answer
+  quiet v next m = record { verdict-is = paper-one-to-one _ v (m .wrote .numbers); guest-is = m .guest; untouched = m .wrote .bytes }
+
+  module _ (four : FourBytes net) (six : length (guest .mac) ≡ 6) where
+    came : (d : Decision) → Says net frame d → Meets (outcomeOf net guest frame (length before) d) before after answer → Came d
+    unfolding Came outcomeOf Says paper
+    came Drop s m = quiet Verdict.Drop guest m
+    came (DropNoting xid) s m = quiet Verdict.Drop (noting xid guest) m
+    came ArpReply s m = framed guest guest 42 _ before after answer (arp-reads-back net frame (four .gateway) .long) m
+    came (EchoReply start) s m =
+        let eight = subst (λ (n : ℕ). 8 ≤ length (drop n frame)) (sym (s .1)) (s .0 .whole) in
+        framed guest (spent guest) _ _ before after answer
+        (echo-frame-reads-back net (guest .id) frame (echo (drop start frame)) (four .gateway) .long ∙ ap (λ (n : ℕ). 34 + n) (length-echo (drop start frame) (omega (arith, eight)))) m
+    came (DhcpReply xid type) s m = framed guest (spent (noting xid guest)) 342 _ before after answer (dhcp-reads-back net guest frame xid type four six .long) m
+    came (Dns start len) s m = quiet (Verdict.Dns start len) guest m
+    came (Relay start len) s m = quiet (Verdict.Relay start len) guest m
+    came (Tcp len) s m = quiet (Verdict.Tcp len) guest m
+    came (TooLong len) s m = quiet (Verdict.TooLong len) guest m
+    came (CutType place) s m = quiet (Verdict.CutType place) guest m
+
+  -- what a quiet answer changes
+  unchanged : (v : Verdict) → Quiet v guest before after answer → Unchanged guest (answer .guest) before after
+  unchanged v q = record { kept = q .guest-is; untouched = q .untouched }
+
+  noted : (xid : ℕ) → Quiet Verdict.Drop (noting xid guest) before after answer → AtMostXid guest (answer .guest) before after
+  noted xid q = record { kept-but-xid = q .guest-is ∙ ap (λ (x : ℕ). noting x guest) (sym (ap (λ (g : Guest). g .xid) (q .guest-is))); untouched = q .untouched }
+
+  -- what a frame that is to be built changes: nothing on 5
+  framed-changed : (next : Guest) (image : List ℕ) → (drop (length image) after ≡ drop (length image) before → answer .guest ≡ next → ReplyBytesIdXid frame (length image) guest (answer .guest) before after)
+      → Framed guest next image before after answer → Changed frame (answer .verdict) guest (answer .guest) before after
+  framed-changed next image f (short r v g b) = subst (λ (x : Verdict). Changed frame x guest (answer .guest) before after) (sym v) (record { kept = g; untouched = b })
+  framed-changed next image f (fits r v g b) =
+      subst (λ (x : Verdict). Changed frame x guest (answer .guest) before after) (sym v)
+      (f (ap (drop (length image)) b ∙ drop-append-seam image (drop (length image) before)) g)
+
+  at : {v : Verdict} → answer .verdict ≡ v → Changed frame v guest (answer .guest) before after → Changed frame (answer .verdict) guest (answer .guest) before after
+  at e = subst (λ (x : Verdict). Changed frame x guest (answer .guest) before after) (sym e)
+
+  told : {v : Verdict} → answer .verdict ≡ v → Returned net guest frame before after v → Returned net guest frame before after (answer .verdict)
+  told e = subst (λ (x : Verdict). Returned net guest frame before after x) (sym e)
+
+  changed-by : (d : Decision) → Says net frame d → Came d → Changed frame (answer .verdict) guest (answer .guest) before after
+  unfolding Came Says
+  changed-by Drop s c = at (c .verdict-is) (record { kept-but-xid = c .guest-is ∙ ap (λ (x : ℕ). noting x guest) (sym (ap (λ (g : Guest). g .xid) (c .guest-is))); untouched = c .untouched })
+  changed-by (DropNoting xid) s c = at (c .verdict-is) (noted xid c)
+  changed-by ArpReply s c =
+      framed-changed guest (built net guest frame ArpReply)
+      (λ rest g.
+      record {
+        rest-untouched = rest;
+        mac-kept = ap (λ (x : Guest). x .mac) g;
+        arp-keeps-all = λ t. g;
+        ipv4-takes-id = λ t. absurd (omega (arith, t, s .0));
+        xid-kept-but-on-dhcp = λ p. ap (λ (x : Guest). x .xid) g;
+        dhcp-takes-xid = λ t p. absurd (omega (arith, t, s .0));
+      })
+      c
+  changed-by (EchoReply start) s c =
+      framed-changed (spent guest) (built net guest frame (EchoReply start))
+      (λ rest g.
+      record {
+        rest-untouched = rest;
+        mac-kept = ap (λ (x : Guest). x .mac) g;
+        arp-keeps-all = λ t. absurd (omega (arith, t, s .0 .icmp .ipv4));
+        ipv4-takes-id = λ t. ap (λ (x : Guest). x .id) g;
+        xid-kept-but-on-dhcp = λ p. ap (λ (x : Guest). x .xid) g;
+        dhcp-takes-xid = λ t p. absurd (omega (arith, p, s .0 .icmp .carried));
+      })
+      c
+  changed-by (DhcpReply xid type) s c =
+      framed-changed (spent (noting xid guest)) (built net guest frame (DhcpReply xid type))
+      (λ rest g.
+      record {
+        rest-untouched = rest;
+        mac-kept = ap (λ (x : Guest). x .mac) g;
+        arp-keeps-all = λ t. absurd (omega (arith, t, s .udp .ipv4));
+        ipv4-takes-id = λ t. ap (λ (x : Guest). x .id) g;
+        xid-kept-but-on-dhcp = λ p. absurd (p (s .udp .carried));
+        dhcp-takes-xid = λ t p. ap (λ (x : Guest). x .xid) g ∙ s .its-xid;
+      })
+      c
+  changed-by (Dns start len) s c = at (c .verdict-is) (unchanged (Verdict.Dns start len) c)
+  changed-by (Relay start len) s c = at (c .verdict-is) (unchanged (Verdict.Relay start len) c)
+  changed-by (Tcp len) s c = at (c .verdict-is) (unchanged (Verdict.Tcp len) c)
+  changed-by (TooLong len) s c = at (c .verdict-is) (unchanged (Verdict.TooLong len) c)
+  changed-by (CutType place) s c = at (c .verdict-is) (unchanged (Verdict.CutType place) c)
+
+  -- what a frame that is to be built returns
+  framed-returned : (next : Guest) (image : List ℕ) → replyAtAmpleRoom net guest frame ≡ image → Framed guest next image before after answer
+      → Returned net guest frame before after (answer .verdict)
+  framed-returned next image e (short r v g b) = told v (ap length (sym e), r)
+  framed-returned next image e (fits r v g b) = told v (ap length (sym e), r, ap (take (length image)) b ∙ take-append-seam image (drop (length image) before) ∙ sym e)
+
+  returned-by : (d : Decision) → decision net frame ≡ d → Says net frame d → Came d → Returned net guest frame before after (answer .verdict)
+  unfolding Came Says replyAtAmpleRoom
+  returned-by Drop e s c = told (c .verdict-is) tt
+  returned-by (DropNoting xid) e s c = told (c .verdict-is) tt
+  returned-by ArpReply e s c = framed-returned guest _ (ap (built net guest frame) e) c
+  returned-by (EchoReply start) e s c = framed-returned (spent guest) _ (ap (built net guest frame) e) c
+  returned-by (DhcpReply xid type) e s c = framed-returned (spent (noting xid guest)) _ (ap (built net guest frame) e) c
+  returned-by (Dns start len) e s c = told (c .verdict-is) s
+  returned-by (Relay start len) e s c = told (c .verdict-is) s
+  returned-by (Tcp len) e s c = told (c .verdict-is) s
+  returned-by (TooLong len) e s c = told (c .verdict-is) s
+  returned-by (CutType place) e s c = told (c .verdict-is) s
+
+  -- which of 5 and 1 it is, by the room
+  record ByRoom : Type 0 where
+    none-if-short : length before < length (replyAtAmpleRoom net guest frame) → answer .verdict ≡ Verdict.NoRoom (length (replyAtAmpleRoom net guest frame))
+    reply-if-fits : 0 < length (replyAtAmpleRoom net guest frame) → length (replyAtAmpleRoom net guest frame) ≤ length before
+        → answer .verdict ≡ Verdict.Reply (length (replyAtAmpleRoom net guest frame))
+
+  no-reply : replyAtAmpleRoom net guest frame ≡ [] → ByRoom
+  no-reply e = let z = ap length e in record { none-if-short = λ r. absurd (omega (arith, z, r)); reply-if-fits = λ p r. absurd (omega (arith, z, p)) }
+
+  framed-by-room : (next : Guest) (image : List ℕ) → replyAtAmpleRoom net guest frame ≡ image → Framed guest next image before after answer → ByRoom
+  framed-by-room next image e (short r v g b) =
+      let z = ap length e in
+      record { none-if-short = λ h. v ∙ ap Verdict.NoRoom (sym z); reply-if-fits = λ p h. absurd (omega (arith, z, h, r)) }
+  framed-by-room next image e (fits r v g b) =
+      let z = ap length e in
+      record { none-if-short = λ h. absurd (omega (arith, z, h, r)); reply-if-fits = λ p h. v ∙ ap Verdict.Reply (sym z) }
+
+  by-room : (d : Decision) → decision net frame ≡ d → Came d → ByRoom
+  unfolding Came replyAtAmpleRoom
+  by-room ArpReply e c = framed-by-room guest _ (ap (built net guest frame) e) c
+  by-room (EchoReply start) e c = framed-by-room (spent guest) _ (ap (built net guest frame) e) c
+  by-room (DhcpReply xid type) e c = framed-by-room (spent (noting xid guest)) _ (ap (built net guest frame) e) c
+  by-room Drop e c = no-reply (ap (built net guest frame) e)
+  by-room (DropNoting xid) e c = no-reply (ap (built net guest frame) e)
+  by-room (Dns start len) e c = no-reply (ap (built net guest frame) e)
+  by-room (Relay start len) e c = no-reply (ap (built net guest frame) e)
+  by-room (Tcp len) e c = no-reply (ap (built net guest frame) e)
+  by-room (TooLong len) e c = no-reply (ap (built net guest frame) e)
+  by-room (CutType place) e c = no-reply (ap (built net guest frame) e)
+
+-- The gateway's promise: for every network, record, frame and buffer, of whatever meets the contract of `handle`.
+module _ (net : Network) (guest : Guest) (frame before after : List ℕ) (answer : Answer) (four : FourBytes net) (six : length (guest .mac) ≡ 6)
+    (m : Meets (outcome net guest frame (length before)) before after answer) where
+  it-came : Came net guest frame before after answer (decision net frame)
+  unfolding outcome
+  it-came = came net guest frame before after answer four six (decision net frame) (says net frame) m
+
+  -- nothing has changed but what the table names: on 5, 6, 7 and on 2, 3, 4 nothing at all
+  pub only-what-is-named : Changed frame (answer .verdict) guest (answer .guest) before after
+  only-what-is-named = changed-by net guest frame before after answer (decision net frame) (says net frame) it-came
+
+  -- the values returned are the table's
+  pub returned-values : Returned net guest frame before after (answer .verdict)
+  returned-values = returned-by net guest frame before after answer (decision net frame) refl (says net frame) it-came
+
+  -- the row of the table that the numbers name
+  row : (v : Verdict) → paper (answer .verdict) ≡ paper v → Changed frame v guest (answer .guest) before after × Returned net guest frame before after v
+  row v e =
+      let same = paper-one-to-one (answer .verdict) v e in
+      (subst (λ (x : Verdict). Changed frame x guest (answer .guest) before after) same only-what-is-named, subst (λ (x : Verdict). Returned net guest frame before after x) same returned-values)
+
+  -- 0 changes at most xid
+  pub on-zero : paper (answer .verdict) ≡ 0 ∷ [] → AtMostXid guest (answer .guest) before after
+  unfolding paper
+  on-zero e = row Verdict.Drop e .0
+
+  -- 1 with n: the reply's n bytes stand in the buffer's front; id on IPv4, xid on DHCP, and nothing else
+  pub on-one : (n : ℕ) → paper (answer .verdict) ≡ 1 ∷ n ∷ []
+      → ReplyBytesIdXid frame n guest (answer .guest) before after
+      × ((n ≡ length (replyAtAmpleRoom net guest frame)) × (n ≤ length before) × (take n after ≡ replyAtAmpleRoom net guest frame))
+  unfolding paper
+  on-one n e = row (Verdict.Reply n) e
+
+  -- 2 and 3 hand out a part of the frame that is the datagram's data, and change nothing
+  pub on-two : (start len : ℕ) → paper (answer .verdict) ≡ 2 ∷ start ∷ len ∷ [] → Unchanged guest (answer .guest) before after × Handed frame start len
+  unfolding paper
+  on-two start len e = let r = row (Verdict.Dns start len) e in (r .0, r .1 .0)
+
+  pub on-three : (start len : ℕ) → paper (answer .verdict) ≡ 3 ∷ start ∷ len ∷ [] → Unchanged guest (answer .guest) before after × Handed frame start len
+  unfolding paper
+  on-three start len e = row (Verdict.Relay start len) e
+
+  -- 4 hands off the whole frame, and changes nothing
+  pub on-four : (n : ℕ) → paper (answer .verdict) ≡ 4 ∷ n ∷ [] → Unchanged guest (answer .guest) before after × (n ≡ length frame)
+  unfolding paper
+  on-four n e = let r = row (Verdict.Tcp n) e in (r .0, r .1 .1)
+
+  -- 5 with n: the room is less than n, the reply's length at ample room, and nothing changes
+  pub on-five : (n : ℕ) → paper (answer .verdict) ≡ 5 ∷ n ∷ []
+      → Unchanged guest (answer .guest) before after × ((n ≡ length (replyAtAmpleRoom net guest frame)) × (length before < n))
+  unfolding paper
+  on-five n e = row (Verdict.NoRoom n) e
+
+  -- 6 with n: a ping whose payload has n bytes, more than 65,515, and nothing changes
+  pub on-six : (n : ℕ) → paper (answer .verdict) ≡ 6 ∷ n ∷ []
+      → Unchanged guest (answer .guest) before after × (EchoAsked net frame × (n ≡ length (payload frame)) × (65515 < n))
+  unfolding paper
+  on-six n e = row (Verdict.TooLong n) e
+
+  -- 7 with the place at which the walk finds the message type cut off, and nothing changes
+  pub on-seven : (place : ℕ) → paper (answer .verdict) ≡ 7 ∷ place ∷ []
+      → Unchanged guest (answer .guest) before after × (walk (datagramData frame) ≡ cut place)
+  unfolding paper
+  on-seven place e = let r = row (Verdict.CutType place) e in (r .0, r .1 .1)
+
+  -- and exactly so: a frame is to be built and the room is less than it: 5
+  pub five-if-short : length before < length (replyAtAmpleRoom net guest frame) → paper (answer .verdict) ≡ 5 ∷ length (replyAtAmpleRoom net guest frame) ∷ []
+  unfolding paper
+  five-if-short r = ap paper (by-room net guest frame before after answer (decision net frame) refl it-came .none-if-short r)
+
+  -- a frame is to be built and there is room for it: 1
+  pub one-if-room : 0 < length (replyAtAmpleRoom net guest frame) → length (replyAtAmpleRoom net guest frame) ≤ length before
+      → paper (answer .verdict) ≡ 1 ∷ length (replyAtAmpleRoom net guest frame) ∷ []
+  unfolding paper
+  one-if-room p r = ap paper (by-room net guest frame before after answer (decision net frame) refl it-came .reply-if-fits p r)
+
+  -- a ping past the length: 6, whatever the room, so before 5
+  pub six-if-too-long : EchoAsked net frame → 65515 < length (payload frame) → paper (answer .verdict) ≡ 6 ∷ length (payload frame) ∷ []
+  unfolding outcome outcomeOf
+  six-if-too-long a over = (rw (too-long-decided net frame a over) at m) .wrote .numbers
+
+-- the n of 5 is the n of the same call with room
+pub needed-is-n : (net : Network) (guest : Guest) (frame before after before′ after′ : List ℕ) (answer answer′ : Answer) (n : ℕ) → FourBytes net → length (guest .mac) ≡ 6
+    → Meets (outcome net guest frame (length before)) before after answer → paper (answer .verdict) ≡ 5 ∷ n ∷ []
+    → n ≤ length before′ → Meets (outcome net guest frame (length before′)) before′ after′ answer′ → paper (answer′ .verdict) ≡ 1 ∷ n ∷ []
+needed-is-n net guest frame before after before′ after′ answer answer′ n four six m e r m′ =
+    let five = on-five net guest frame before after answer four six m n e .1 in
+    one-if-room net guest frame before′ after′ answer′ four six m′ (omega (arith, five .0, five .1)) (omega (arith, five .0, r))
+    ∙ ap (λ (k : ℕ). 1 ∷ k ∷ []) (sym (five .0))

@@ -1,0 +1,82 @@
+-- Document 01's table of verdicts ("Verdict numbers"), its columns "Returned" and "Changed" as what has to hold of an answer.
+use Prim.Native.Nat.{ℕ, _+_, _%_, _≤_, _<_}
+use mathlib.Core.Path.{_≡_}
+use mathlib.Core.List.{List, []}
+use lib.ListN.{length, take, drop}
+use Rattle.dhcp.specs.Rfc2132.{cut, walk}
+use Rattle.fields.specs.Rfc768.{targetPort}
+use Rattle.fields.specs.Rfc791.{protocolOf, sourceOf, targetOf}
+use Rattle.fields.specs.Rfc894.{body, sourceMac, typeOf}
+use Rattle.fields.specs.Rfc2131.{transactionId}
+use Rattle.frames.specs.Rfc791.{ipFrame}
+use Rattle.frames.specs.declared.answer.Guest.{Guest}
+use Rattle.frames.specs.declared.answer.Verdict.{Verdict}
+use Rattle.frames.specs.declared.answer.Verdict.the-variants.{Drop, Reply, Dns, Relay, Tcp, NoRoom, TooLong, CutType}
+use Rattle.frames.specs.declared.network.Network.{Network}
+use Rattle.slirp.specs.Rfc792.{echo}
+use Rattle.slirp.specs.Rfc826.{arpReply}
+use Rattle.slirp.specs.Rfc2131.{dhcpFrame}
+use Rattle.slirp.specs.Rules.{payload, datagramData, decision, noting}
+use Rattle.slirp.specs.Seen.{Carries, Handed, EchoAsked}
+use Rattle.slirp.specs.declared.decision.Decision.{Decision}
+use Rattle.slirp.specs.declared.decision.Decision.the-variants.{DropNoting, ArpReply, EchoReply, DhcpReply}
+use Rattle.slirp.specs.declared.decision.Decision.the-variants as Decision
+
+-- the frame that a decision builds; `[]` where it builds none
+abbrev pub built : Network → Guest → (frame : List ℕ) → Decision → List ℕ
+built net guest frame ArpReply = arpReply net frame
+built net guest frame (EchoReply start) = ipFrame (sourceMac frame) (guest .id) 1 (net .gateway) (sourceOf (body frame)) (echo (drop start frame))
+built net guest frame (DhcpReply xid type) = dhcpFrame net guest frame xid type
+built net guest frame Decision.Drop = []
+built net guest frame (DropNoting xid) = []
+built net guest frame (Decision.Dns start len) = []
+built net guest frame (Decision.Relay start len) = []
+built net guest frame (Decision.Tcp len) = []
+built net guest frame (Decision.TooLong len) = []
+built net guest frame (Decision.CutType place) = []
+
+-- the reply to a frame where there is room; `[]` where it gets none
+unfoldable pub replyAtAmpleRoom : Network → Guest → (frame : List ℕ) → List ℕ
+replyAtAmpleRoom net guest frame = built net guest frame (decision net frame)
+
+-- The column "Returned", row by row: the numbers, and what they say of the frame, the room and the buffer afterwards.
+abbrev pub Returned : Network → Guest → (frame before after : List ℕ) → Verdict → Type 0
+Returned net guest frame before after Drop = Unit
+Returned net guest frame before after (Reply n) =
+    (n ≡ length (replyAtAmpleRoom net guest frame)) × (n ≤ length before) × (take n after ≡ replyAtAmpleRoom net guest frame)
+Returned net guest frame before after (Dns start len) = Handed frame start len × (targetOf (body frame) ≡ net .gateway) × (targetPort (payload frame) ≡ 53)
+Returned net guest frame before after (Relay start len) = Handed frame start len
+Returned net guest frame before after (Tcp len) = Carries frame 6 × (len ≡ length frame)
+Returned net guest frame before after (NoRoom needed) = (needed ≡ length (replyAtAmpleRoom net guest frame)) × (length before < needed)
+Returned net guest frame before after (TooLong len) = EchoAsked net frame × (len ≡ length (payload frame)) × (65515 < len)
+Returned net guest frame before after (CutType place) = Carries frame 17 × (walk (datagramData frame) ≡ cut place)
+
+-- "nothing"
+pub record Unchanged (guest next : Guest) (before after : List ℕ) : Type 0 where
+  pub kept : next ≡ guest
+  pub untouched : after ≡ before
+
+-- 0: "at most xid"
+pub record AtMostXid (guest next : Guest) (before after : List ℕ) : Type 0 where
+  pub kept-but-xid : next ≡ noting (next .xid) guest
+  pub untouched : after ≡ before
+
+-- 1: "first n reply bytes; id on IPv4; xid on DHCP"
+pub record ReplyBytesIdXid (frame : List ℕ) (n : ℕ) (guest next : Guest) (before after : List ℕ) : Type 0 where
+  pub rest-untouched : drop n after ≡ drop n before
+  pub mac-kept : next .mac ≡ guest .mac
+  pub arp-keeps-all : typeOf frame ≡ 0x0806 → next ≡ guest
+  pub ipv4-takes-id : typeOf frame ≡ 0x0800 → next .id ≡ (guest .id + 1) % 65536
+  pub xid-kept-but-on-dhcp : (protocolOf (body frame) ≡ 17 → ⊥) → next .xid ≡ guest .xid
+  pub dhcp-takes-xid : typeOf frame ≡ 0x0800 → protocolOf (body frame) ≡ 17 → next .xid ≡ transactionId (datagramData frame)
+
+-- The column "Changed", row by row.
+abbrev pub Changed : (frame : List ℕ) → Verdict → (guest next : Guest) (before after : List ℕ) → Type 0
+Changed frame Drop guest next before after = AtMostXid guest next before after
+Changed frame (Reply n) guest next before after = ReplyBytesIdXid frame n guest next before after
+Changed frame (Dns start len) guest next before after = Unchanged guest next before after
+Changed frame (Relay start len) guest next before after = Unchanged guest next before after
+Changed frame (Tcp len) guest next before after = Unchanged guest next before after
+Changed frame (NoRoom needed) guest next before after = Unchanged guest next before after
+Changed frame (TooLong len) guest next before after = Unchanged guest next before after
+Changed frame (CutType place) guest next before after = Unchanged guest next before after
