@@ -1,2 +1,3 @@
 pub mod MarkedHold
 pub mod Demand1
+pub mod Isolation
