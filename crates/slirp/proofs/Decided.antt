@@ -1,6 +1,6 @@
 -- What comes of a frame once its decision is known.
 use Prim.Native.Nat.{ℕ, _+_, _≤_}
-use mathlib.Core.Path.{_≡_, refl, sym, subst}
+use mathlib.Core.Path.{_≡_, refl, ap, sym, subst, _∙_}
 use mathlib.Core.List.{List}
 use native.Mathlib.Omega.{arith}
 use lib.ListN.{length, length-drop}
@@ -23,9 +23,10 @@ as-decided net guest frame before after answer d e m =
     subst (λ (x : Decision). Meets (outcomeOf net guest frame (length before) x) before after answer) (sym e) m
 
 -- nothing is written
-pub left-alone : (v : Verdict) (numbers : List ℕ) (guest : Guest) (before : List ℕ) → paper v ≡ numbers
-    → Meets (unwritten numbers guest) before before (record { verdict = v; guest = guest })
-left-alone v numbers guest before e = record { wrote = record { numbers = e; bytes = refl }; guest = refl }
+pub left-alone : (v : Verdict) (numbers : List ℕ) (guest : Guest) (before : List ℕ) (answer : Answer) → paper v ≡ numbers
+    → answer ≡ record { verdict = v; guest = guest } → Meets (unwritten numbers guest) before before answer
+left-alone v numbers guest before answer e a =
+    record { wrote = record { numbers = ap (λ (x : Answer). paper (x .verdict)) a ∙ e; bytes = refl }; guest = ap (λ (x : Answer). x .guest) a }
 
 -- an echo request lies in its frame, and is not too long
 pub request-inside : (net : Network) (frame : List ℕ) (start : ℕ) → decision net frame ≡ EchoReply start → (start + 4 ≤ length frame) × (length frame ≤ start + 65515)

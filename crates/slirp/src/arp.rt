@@ -66,7 +66,7 @@ pub fn handle_arp(net: Network, guest: Guest, frame: &[u8], reply: &mut [u8]) ->
     if reply.len() < FRAME {
         return Answer {
             verdict: Verdict::NoRoom(FRAME),
-            guest: guest,
+            guest,
         };
     }
     let gateway = net.gateway;
@@ -78,7 +78,7 @@ pub fn handle_arp(net: Network, guest: Guest, frame: &[u8], reply: &mut [u8]) ->
     );
     Answer {
         verdict: Verdict::Reply(FRAME),
-        guest: guest,
+        guest,
     }
 }
 

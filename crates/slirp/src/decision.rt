@@ -163,7 +163,7 @@ fn decide_icmp(net: Network, frame: &[u8]) -> Decision
     if PAYLOAD_LIMIT < len {
         return Decision::TooLong(len);
     }
-    Decision::EchoReply { start: start }
+    Decision::EchoReply { start }
 }
 
 fn decide_udp(net: Network, frame: &[u8]) -> Decision
@@ -226,10 +226,7 @@ fn decide_type(xid: u32, found: Found) -> Decision
             if kind == 0 {
                 return Decision::DropNoting(xid);
             }
-            Decision::DhcpReply {
-                xid: xid,
-                kind: kind,
-            }
+            Decision::DhcpReply { xid, kind }
         }
         Found::CutAt(place) => Decision::CutType(place),
     }

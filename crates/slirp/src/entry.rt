@@ -31,42 +31,22 @@ pub fn handle_on(net: Network, guest: Guest, frame: &[u8], reply: &mut [u8]) -> 
         (now (reply .entry)) (now (reply .exit)) r ⌝ }
 {
     match decide(net, frame) {
-        Decision::Drop => Answer {
-            verdict: Verdict::Drop,
-            guest: guest,
-        },
-        Decision::DropNoting(xid) => Answer {
-            verdict: Verdict::Drop,
-            guest: noted(guest, xid),
-        },
+        Decision::Drop => answer(guest, Verdict::Drop),
+        Decision::DropNoting(xid) => answer(noted(guest, xid), Verdict::Drop),
         Decision::ArpReply => handle_arp(net, guest, frame, reply),
         Decision::EchoReply { start } => handle_icmp(net, guest, frame, start, reply),
         Decision::DhcpReply { xid, kind } => handle_dhcp(net, guest, frame, xid, kind, reply),
-        Decision::Dns { start, len } => Answer {
-            verdict: Verdict::Dns {
-                start: start,
-                len: len,
-            },
-            guest: guest,
-        },
-        Decision::Relay { start, len } => Answer {
-            verdict: Verdict::Relay {
-                start: start,
-                len: len,
-            },
-            guest: guest,
-        },
-        Decision::Tcp(len) => Answer {
-            verdict: Verdict::Tcp(len),
-            guest: guest,
-        },
-        Decision::TooLong(len) => Answer {
-            verdict: Verdict::TooLong(len),
-            guest: guest,
-        },
-        Decision::CutType(place) => Answer {
-            verdict: Verdict::CutType(place),
-            guest: guest,
-        },
+        Decision::Dns { start, len } => answer(guest, Verdict::Dns { start, len }),
+        Decision::Relay { start, len } => answer(guest, Verdict::Relay { start, len }),
+        Decision::Tcp(len) => answer(guest, Verdict::Tcp(len)),
+        Decision::TooLong(len) => answer(guest, Verdict::TooLong(len)),
+        Decision::CutType(place) => answer(guest, Verdict::CutType(place)),
     }
+}
+
+// Nothing is written.
+fn answer(guest: Guest, verdict: Verdict) -> Answer
+    ensures { λ r. ⌜ r ≡ record { verdict = verdict; guest = guest } ⌝ }
+{
+    Answer { verdict, guest }
 }

@@ -46,7 +46,7 @@ pub fn handle_icmp(
     if reply.len() < MESSAGE_AT + len {
         return Answer {
             verdict: Verdict::NoRoom(MESSAGE_AT + len),
-            guest: guest,
+            guest,
         };
     }
     put_echo(&frame[start..], reply);

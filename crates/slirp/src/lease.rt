@@ -46,7 +46,7 @@ pub fn handle_dhcp(
     if reply.len() < FRAME {
         return Answer {
             verdict: Verdict::NoRoom(FRAME),
-            guest: guest,
+            guest,
         };
     }
     let mac = guest.mac;
@@ -83,8 +83,8 @@ pub fn noted(guest: Guest, xid: u32) -> Guest
 {
     let mac = guest.mac;
     Guest {
-        mac: mac,
+        mac,
         id: guest.id,
-        xid: xid,
+        xid,
     }
 }

@@ -1,7 +1,9 @@
 -- `entry::handle_on` meets its contract, decision by decision.
-use Prim.Native.Nat.{ℕ}
-use mathlib.Core.Path.{refl, sym, _∙_}
+use mathlib.Core.Path.{refl, sym, ap, _∙_}
 use Rattle.frames.specs.Answer.{paper}
+use Rattle.frames.specs.declared.answer.Answer.{Answer}
+use Rattle.frames.specs.declared.answer.Guest.{Guest}
+use Rattle.frames.specs.declared.answer.Verdict.the-variants.{Drop}
 use Rattle.slirp.specs.Rules.{outcomeOf}
 use Rattle.slirp.proofs.Decided.{as-decided, left-alone, request-inside}
 use borrow.Author.Needs.{needs}
@@ -14,11 +16,17 @@ decide-requires c κs = search needs
 enum-told : tie.Need-enum-told
 enum-told c = search needs
 
+answer-requires : tie.Need-answer-requires
+answer-requires c κs = search needs
+
 enum-known-xid : tie.Need-enum-known-xid
 enum-known-xid c = search needs
 
 noted-requires : tie.Need-noted-requires
 noted-requires c κs = search needs
+
+answer-requires-2 : tie.Need-answer-requires-2
+answer-requires-2 c κs = search needs
 
 enum-told-2 : tie.Need-enum-told-2
 enum-told-2 c = search needs
@@ -41,27 +49,40 @@ handle-dhcp-requires c κs = search needs
 enum-known-start-2 : tie.Need-enum-known-start-2
 enum-known-start-2 c = search needs
 
+answer-requires-3 : tie.Need-answer-requires-3
+answer-requires-3 c κs = search needs
+
 enum-known-start-3 : tie.Need-enum-known-start-3
 enum-known-start-3 c = search needs
+
+answer-requires-4 : tie.Need-answer-requires-4
+answer-requires-4 c κs = search needs
 
 enum-known-len : tie.Need-enum-known-len
 enum-known-len c = search needs
 
+answer-requires-5 : tie.Need-answer-requires-5
+answer-requires-5 c κs = search needs
+
 enum-known-len-2 : tie.Need-enum-known-len-2
 enum-known-len-2 c = search needs
+
+answer-requires-6 : tie.Need-answer-requires-6
+answer-requires-6 c κs = search needs
 
 enum-known-place : tie.Need-enum-known-place
 enum-known-place c = search needs
 
+answer-requires-7 : tie.Need-answer-requires-7
+answer-requires-7 c κs = search needs
+
 returns : tie.Need-returns
 unfolding outcomeOf paper
-returns c = as-decided _ _ _ _ _ _ _ (sym (c .before .before .decide .ensures) ∙ c .enum-told .given .1) (left-alone _ _ _ _ refl)
+returns c = as-decided _ _ _ _ _ _ _ (sym (c .before .before .before .decide .ensures) ∙ c .before .enum-told .given .1) (left-alone _ _ _ _ _ refl (c .answer .ensures))
 
 returns-2 : tie.Need-returns-2
 unfolding outcomeOf paper
-returns-2 c =
-    as-decided _ _ _ _ _ _ _ (sym (c .before .before .before .before .decide .ensures) ∙ c .before .before .xid .given .1)
-    (record { wrote = record { numbers = refl; bytes = refl }; guest = c .noted .ensures })
+returns-2 c = as-decided _ _ _ _ _ _ _ (sym (c .before .before .before .before .before .decide .ensures) ∙ c .before .before .before .xid .given .1) (left-alone _ _ _ _ _ refl (c .answer2 .ensures ∙ ap (λ (g : Guest). record { verdict = Drop; guest = g }) (c .before .noted .ensures)))
 
 same-length : tie.Need-same-length
 same-length c = search needs
@@ -86,23 +107,23 @@ returns-5 c = as-decided _ _ _ _ _ _ _ (sym (c .before .before .before .before .
 
 returns-6 : tie.Need-returns-6
 unfolding outcomeOf paper
-returns-6 c = as-decided _ _ _ _ _ _ _ (sym (c .before .before .before .decide .ensures) ∙ c .before .start2 .given .1) (left-alone _ _ _ _ refl)
+returns-6 c = as-decided _ _ _ _ _ _ _ (sym (c .before .before .before .before .decide .ensures) ∙ c .before .before .start2 .given .1) (left-alone _ _ _ _ _ refl (c .answer3 .ensures))
 
 returns-7 : tie.Need-returns-7
 unfolding outcomeOf paper
-returns-7 c = as-decided _ _ _ _ _ _ _ (sym (c .before .before .before .decide .ensures) ∙ c .before .start3 .given .1) (left-alone _ _ _ _ refl)
+returns-7 c = as-decided _ _ _ _ _ _ _ (sym (c .before .before .before .before .decide .ensures) ∙ c .before .before .start3 .given .1) (left-alone _ _ _ _ _ refl (c .answer4 .ensures))
 
 returns-8 : tie.Need-returns-8
 unfolding outcomeOf paper
-returns-8 c = as-decided _ _ _ _ _ _ _ (sym (c .before .before .before .decide .ensures) ∙ c .before .len .given .1) (left-alone _ _ _ _ refl)
+returns-8 c = as-decided _ _ _ _ _ _ _ (sym (c .before .before .before .before .decide .ensures) ∙ c .before .before .len .given .1) (left-alone _ _ _ _ _ refl (c .answer5 .ensures))
 
 returns-9 : tie.Need-returns-9
 unfolding outcomeOf paper
-returns-9 c = as-decided _ _ _ _ _ _ _ (sym (c .before .before .before .decide .ensures) ∙ c .before .len2 .given .1) (left-alone _ _ _ _ refl)
+returns-9 c = as-decided _ _ _ _ _ _ _ (sym (c .before .before .before .before .decide .ensures) ∙ c .before .before .len2 .given .1) (left-alone _ _ _ _ _ refl (c .answer6 .ensures))
 
 returns-10 : tie.Need-returns-10
 unfolding outcomeOf paper
-returns-10 c = as-decided _ _ _ _ _ _ _ (sym (c .before .before .before .decide .ensures) ∙ c .before .place .given .1) (left-alone _ _ _ _ refl)
+returns-10 c = as-decided _ _ _ _ _ _ _ (sym (c .before .before .before .before .decide .ensures) ∙ c .before .before .place .given .1) (left-alone _ _ _ _ _ refl (c .answer7 .ensures))
 
 pub handle-on-spec : {M : Type 1} → statement M
 handle-on-spec =
@@ -110,8 +131,10 @@ handle-on-spec =
     (tie.spec
     decide-requires
     enum-told
+    answer-requires
     enum-known-xid
     noted-requires
+    answer-requires-2
     enum-told-2
     handle-arp-requires
     enum-known-start
@@ -119,10 +142,15 @@ handle-on-spec =
     enum-known-xid-2
     handle-dhcp-requires
     enum-known-start-2
+    answer-requires-3
     enum-known-start-3
+    answer-requires-4
     enum-known-len
+    answer-requires-5
     enum-known-len-2
+    answer-requires-6
     enum-known-place
+    answer-requires-7
     returns
     returns-2
     same-length
