@@ -1,4 +1,5 @@
 pub mod Same
+pub mod Ping
 pub mod Datagram
 pub mod Framing
 pub mod ArpPieces

@@ -6,6 +6,8 @@ ghost use Prim.Native.Nat.{_≤_};
 ghost use Rattle.frames.specs.Buffer.{put as Buffer·put};
 ghost use Rattle.slirp.specs.Rfc826.{arpReply, replyTo};
 ghost use Rattle.slirp.specs.Rules.{framing};
+use crate::answers::answer;
+use crate::answers::no_room;
 use fields::address_at;
 use fields::mac_at;
 use frames::Answer;
@@ -64,10 +66,7 @@ pub fn handle_arp(net: Network, guest: Guest, frame: &[u8], reply: &mut [u8]) ->
         (now (reply .entry)) (now (reply .exit)) r ⌝ }
 {
     if reply.len() < FRAME {
-        return Answer {
-            verdict: Verdict::NoRoom(FRAME),
-            guest,
-        };
+        return no_room(guest, FRAME);
     }
     let gateway = net.gateway;
     put_reply(
@@ -76,10 +75,7 @@ pub fn handle_arp(net: Network, guest: Guest, frame: &[u8], reply: &mut [u8]) ->
         address_at(frame, SENDER_IP),
         reply,
     );
-    Answer {
-        verdict: Verdict::Reply(FRAME),
-        guest,
-    }
+    answer(guest, Verdict::Reply(FRAME))
 }
 
 // Each piece stands right behind the one before it.

@@ -1,7 +1,8 @@
 // Document 01's tests on a guest frame, in its order. Nothing here looks at the record or at the room.
 ghost use mathlib.Core.Path.{_≡_};
 ghost use mathlib.Core.Bool.{_&&_};
-ghost use Prim.Native.Nat.{_≤_};
+ghost use Prim.Native.Nat.{_-_, _≤_};
+ghost use lib.ListN.{length};
 ghost use lib.Dec.{eqb, ltb};
 ghost use Rattle.frames.specs.Pick.{pick};
 ghost use Rattle.slirp.specs.Rules.{decision, arpDecision, ipDecision, icmpDecision, udpDecision, dhcpDecision, typeDecision};
@@ -153,7 +154,7 @@ fn decide_icmp(net: Network, frame: &[u8]) -> Decision
     if frame.len() < start {
         return Decision::Drop;
     }
-    let len = frame.len() - start;
+    let len = payload_length(frame, start);
     if len < ICMP_HEADER {
         return Decision::Drop;
     }
@@ -169,35 +170,38 @@ fn decide_icmp(net: Network, frame: &[u8]) -> Decision
 fn decide_udp(net: Network, frame: &[u8]) -> Decision
     ensures { λ r. ⌜ r ≡ udpDecision net (now (frame .entry)) ⌝ }
 {
-    let start = ETHERNET_HEADER + ip_hlen(frame);
-    if frame.len() < start {
+    let gateway = net.gateway;
+    let target = ip_dst(frame);
+    let header = ETHERNET_HEADER + ip_hlen(frame);
+    if frame.len() < header {
         return Decision::Drop;
     }
-    let len = frame.len() - start;
-    if len < UDP_HEADER {
+    let size = payload_length(frame, header);
+    if size < UDP_HEADER {
         return Decision::Drop;
     }
-    let stated = u16be(frame, start + UDP_LENGTH) as usize;
+    let stated = u16be(frame, header + UDP_LENGTH) as usize;
     if stated < UDP_HEADER {
         return Decision::Drop;
     }
-    let from = start + UDP_HEADER;
-    let size = smaller(stated - UDP_HEADER, len - UDP_HEADER);
-    let destination = u16be(frame, start + UDP_DESTINATION);
-    if is_dhcp(u16be(frame, start), destination) {
-        return decide_dhcp(&frame[from..from + size]);
+    let start = header + UDP_HEADER;
+    let len = smaller(stated - UDP_HEADER, size - UDP_HEADER);
+    let destination = u16be(frame, header + UDP_DESTINATION);
+    if is_dhcp(u16be(frame, header), destination) {
+        return decide_dhcp(&frame[start..start + len]);
     }
-    let gateway = net.gateway;
-    if is_dns(gateway, ip_dst(frame), destination) {
-        return Decision::Dns {
-            start: from,
-            len: size,
-        };
+    if is_dns(gateway, target, destination) {
+        return Decision::Dns { start, len };
     }
-    Decision::Relay {
-        start: from,
-        len: size,
-    }
+    Decision::Relay { start, len }
+}
+
+// The payload runs to the end of the frame, whatever total length the packet states.
+pub fn payload_length(frame: &[u8], start: usize) -> usize
+    requires { ⌜ start ≤ length (now frame) ⌝ }
+    ensures { λ r. ⌜ r ≡ length (now (frame .entry)) - start ⌝ }
+{
+    frame.len() - start
 }
 
 // DHCP data, whoever it is addressed to.
@@ -241,13 +245,11 @@ fn smaller(a: usize, b: usize) -> usize
     a
 }
 
+// Whatever address it is sent to.
 fn is_dhcp(source: u16, destination: u16) -> bool
     ensures { λ r. ⌜ r ≡ (eqb source 68 && eqb destination 67) ⌝ }
 {
-    if source != DHCP_CLIENT_PORT {
-        return false;
-    }
-    destination == DHCP_SERVER_PORT
+    (source == DHCP_CLIENT_PORT) & (destination == DHCP_SERVER_PORT)
 }
 
 fn is_dns(gateway: [u8; 4], target: [u8; 4], destination: u16) -> bool

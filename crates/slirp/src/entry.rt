@@ -4,12 +4,13 @@ ghost use lib.ListN.{length};
 ghost use Rattle.frames.specs.Answer.{Meets};
 ghost use Rattle.frames.specs.Network.{network};
 ghost use Rattle.slirp.specs.Rules.{outcome, outcomeOf};
+use crate::answers::answer;
+use crate::answers::noted;
 use crate::arp::handle_arp;
 use crate::decision::Decision;
 use crate::decision::decide;
 use crate::icmp::handle_icmp;
 use crate::lease::handle_dhcp;
-use crate::lease::noted;
 use frames::Answer;
 use frames::Guest;
 use frames::Network;
@@ -42,11 +43,4 @@ pub fn handle_on(net: Network, guest: Guest, frame: &[u8], reply: &mut [u8]) -> 
         Decision::TooLong(len) => answer(guest, Verdict::TooLong(len)),
         Decision::CutType(place) => answer(guest, Verdict::CutType(place)),
     }
-}
-
-// Nothing is written.
-fn answer(guest: Guest, verdict: Verdict) -> Answer
-    ensures { λ r. ⌜ r ≡ record { verdict = verdict; guest = guest } ⌝ }
-{
-    Answer { verdict, guest }
 }

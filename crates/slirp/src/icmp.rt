@@ -9,12 +9,13 @@ ghost use Rattle.frames.specs.Buffer.{put as Buffer·put};
 ghost use Rattle.frames.specs.Rfc791.{ipFrame};
 ghost use Rattle.slirp.specs.Rfc792.{echo};
 ghost use Rattle.slirp.specs.Rules.{framing};
+use crate::answers::no_room;
+use crate::decision::payload_length;
 use fields::eth_src;
 use fields::ip_src;
 use frames::Answer;
 use frames::Guest;
 use frames::Network;
-use frames::Verdict;
 use frames::make_ip_frame_in_place;
 use frames::put;
 use sums::checksum;
@@ -42,12 +43,9 @@ pub fn handle_icmp(
         (ipFrame (sourceMac (now (frame .entry))) (guest .id) 1 (net .gateway) (sourceOf (body (now (frame .entry)))) (echo (drop start (now (frame .entry))))))
         (now (reply .entry)) (now (reply .exit)) r ⌝ }
 {
-    let len = frame.len() - start;
+    let len = payload_length(frame, start);
     if reply.len() < MESSAGE_AT + len {
-        return Answer {
-            verdict: Verdict::NoRoom(MESSAGE_AT + len),
-            guest,
-        };
+        return no_room(guest, MESSAGE_AT + len);
     }
     put_echo(&frame[start..], reply);
     let gateway = net.gateway;

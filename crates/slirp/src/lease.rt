@@ -8,12 +8,13 @@ ghost use Rattle.frames.specs.Buffer.{put as Buffer·put};
 ghost use Rattle.frames.specs.Rfc768.{datagram};
 ghost use Rattle.slirp.specs.Rfc2131.{dhcpFrame};
 ghost use Rattle.slirp.specs.Rules.{framing, noting};
+use crate::answers::no_room;
+use crate::answers::noted;
 use dhcp::build_reply;
 use fields::eth_src;
 use frames::Answer;
 use frames::Guest;
 use frames::Network;
-use frames::Verdict;
 use frames::make_ip_frame_in_place;
 use frames::make_udp_payload;
 
@@ -44,17 +45,15 @@ pub fn handle_dhcp(
         (now (reply .entry)) (now (reply .exit)) r ⌝ }
 {
     if reply.len() < FRAME {
-        return Answer {
-            verdict: Verdict::NoRoom(FRAME),
-            guest,
-        };
+        return no_room(guest, FRAME);
     }
     let mac = guest.mac;
+    let sender = eth_src(frame);
     let gateway = net.gateway;
     put_datagram(net, mac, xid, kind, reply);
     make_ip_frame_in_place(
         noted(guest, xid),
-        eth_src(frame),
+        sender,
         gateway,
         net.broadcast(),
         IP_PROTO_UDP,
@@ -75,16 +74,4 @@ fn put_datagram(net: Network, mac: [u8; 6], xid: u32, kind: u8, reply: &mut [u8]
         &message,
         &mut reply[DATAGRAM_AT..],
     );
-}
-
-// The record with the message's xid.
-pub fn noted(guest: Guest, xid: u32) -> Guest
-    ensures { λ r. ⌜ r ≡ noting xid guest ⌝ }
-{
-    let mac = guest.mac;
-    Guest {
-        mac,
-        id: guest.id,
-        xid,
-    }
 }

@@ -1,5 +1,6 @@
 // One call for one guest frame: it decides by looking at the frame alone, and then builds. Frames of
 // any length, buffers of any size, any record; nothing relies on checks by its caller.
+mod answers;
 mod arp;
 mod decision;
 mod entry;

@@ -13,8 +13,11 @@ use borrow.Author.Needs.{needs}
 use Rattle.slirp.proofs.arp.handle_arp.Statement.{statement}
 use Rattle.slirp.proofs.arp.handle_arp.Tie as tie
 
+no-room-requires : tie.Need-no-room-requires
+no-room-requires c κs = search needs
+
 returns : tie.Need-returns
-returns c = too-small _ _ 42 _ _ _ 42 refl (c .if1 .taken)
+returns c = rw (c .no-room .ensures) (too-small _ _ 42 _ _ _ 42 refl (c .before .if1 .taken))
 
 mac-at-requires : tie.Need-mac-at-requires
 mac-at-requires c κs = search needs
@@ -25,23 +28,35 @@ address-at-requires c κs = search needs
 put-reply-requires : tie.Need-put-reply-requires
 put-reply-requires c κs = search needs
 
+answer-requires : tie.Need-answer-requires
+answer-requires c κs = search needs
+
 same-length : tie.Need-same-length
 same-length c = search needs
 
 returns-2 : tie.Need-returns-2
 returns-2 c =
-    let start = c .before .before .before .before .before .before .before .before .before .before in
+    let start = c .before .before .before .before .before .before .before .before .before .before .before in
     let frame = start .args .frame .now in
     let net = start .args .net in
     let reply = start .args .reply .now in
-    let mac : c .before .before .before .before .before .mac-at .result ≡ senderMac (body frame) = simp getD-drop (c .before .before .before .before .before .mac-at .ensures) in
-    let address : c .before .before .before .before .address-at .result ≡ senderAddress (body frame) = simp getD-drop (c .before .before .before .before .address-at .ensures) in
-    large-enough _ _ 42 _ _ _ _ (c .before .before .before .before .before .before .before .if1 .left)
-    (c .before .before .put-reply .ensures
+    let mac : c .before .before .before .before .before .before .mac-at .result ≡ senderMac (body frame) = simp getD-drop (c .before .before .before .before .before .before .mac-at .ensures) in
+    let address : c .before .before .before .before .before .address-at .result ≡ senderAddress (body frame) = simp getD-drop (c .before .before .before .before .before .address-at .ensures) in
+    rw (c .answer .ensures)
+    (large-enough _ _ 42 _ _ _ _ (c .before .before .before .before .before .before .before .before .if1 .left)
+    (c .before .before .before .put-reply .ensures
     ∙ ap (λ (s : List ℕ). put 0 s reply) (ap₂ (replyTo (net .gateway)) mac address)
-    ∙ put-front (arpReply net frame) reply)
+    ∙ put-front (arpReply net frame) reply))
 
 pub handle-arp-spec : {M : Type 1} → statement M
 handle-arp-spec =
     tie.close
-    (tie.spec returns mac-at-requires address-at-requires put-reply-requires same-length returns-2)
+    (tie.spec
+    no-room-requires
+    returns
+    mac-at-requires
+    address-at-requires
+    put-reply-requires
+    answer-requires
+    same-length
+    returns-2)

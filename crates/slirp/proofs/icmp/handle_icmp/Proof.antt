@@ -15,20 +15,25 @@ use borrow.Author.Needs.{needs}
 use Rattle.slirp.proofs.icmp.handle_icmp.Statement.{statement}
 use Rattle.slirp.proofs.icmp.handle_icmp.Tie as tie
 
-sub-len : tie.Need-sub-len
-sub-len c = search needs
+payload-length-requires : tie.Need-payload-length-requires
+payload-length-requires c κs = search needs
 
 add-if1 : tie.Need-add-if1
 add-if1 c = search needs
 
-add-t11 : tie.Need-add-t11
-add-t11 c = search needs
+add-no-room : tie.Need-add-no-room
+add-no-room c = search needs
+
+no-room-requires : tie.Need-no-room-requires
+no-room-requires c κs = search needs
 
 returns : tie.Need-returns
 returns c =
-    let a = c .before .before .before .args in
+    let a = c .before .before .before .before .before .args in
     let cut = length-drop (a .start) (a .frame .now) in
-    too-small _ _ _ _ _ _ (34 + (length (a .frame .now) - a .start)) (omega (arith, cut)) (omega (arith, cut, c .if1 .taken))
+    let size = c .before .before .payload-length .ensures in
+    rw (c .no-room .ensures)
+    (too-small _ _ _ _ _ _ (34 + c .before .before .payload-length .result) (omega (arith, cut, size)) (omega (arith, cut, size, c .before .if1 .taken)))
 
 sub-put-echo : tie.Need-sub-put-echo
 sub-put-echo c = search needs
@@ -56,25 +61,27 @@ same-length c = search needs
 
 returns-2 : tie.Need-returns-2
 returns-2 c =
-    let start = c .before .before .before .before .before .before .before .before .before .before .before .before .before .before .before in
+    let start = c .before .before .before .before .before .before .before .before .before .before .before .before .before .before .before .before in
     let a = start .args in
     let frame = a .frame .now in
     let request = drop (a .start) frame in
     let cut = length-drop (a .start) frame in
     let pre = start .pre in
+    let size = c .before .before .before .before .before .before .before .before .before .before .before .before .before .payload-length .ensures in
     let four = sym (length-map (a .net .gateway) _) ∙ start .good .0 .1 .1 .0 .1 .0 .1 in
     let long = length-echo request (omega (arith, cut, pre)) in
     framed-in-place (sourceMac frame) (a .net .gateway) (sourceOf (body frame)) refl four refl (a .guest) (a .guest) (34 + length request) 1 (echo request) (a .reply .now)
-    (length frame - a .start) _ _ _ _ _ _ (c .before .before .before .before .before .eth-src .ensures) refl (c .before .before .before .before .ip-src .ensures) (omega (arith, cut, long))
-    (c .before .before .before .before .before .before .before .before .before .put-echo .ensures ∙ ap (λ (s : List ℕ). put 34 (echo s) (a .reply .now)) (from-on (a .start) frame)) (omega (arith, cut)) (omega (arith, pre)) (omega (arith, cut, c .before .before .before .before .before .before .before .before .before .before .before .before .if1 .left)) (c .before .before .make-ip-frame-in-place .ensures)
+    (c .before .before .before .before .before .before .before .before .before .before .before .before .before .payload-length .result) _ _ _ _ _ _ (c .before .before .before .before .before .eth-src .ensures) refl (c .before .before .before .before .ip-src .ensures) (omega (arith, cut, long, size))
+    (c .before .before .before .before .before .before .before .before .before .put-echo .ensures ∙ ap (λ (s : List ℕ). put 34 (echo s) (a .reply .now)) (from-on (a .start) frame)) (omega (arith, cut, size)) (omega (arith, pre, size)) (omega (arith, cut, size, c .before .before .before .before .before .before .before .before .before .before .before .before .if1 .left)) (c .before .before .make-ip-frame-in-place .ensures)
 
 pub handle-icmp-spec : {M : Type 1} → statement M
 handle-icmp-spec =
     tie.close
     (tie.spec
-    sub-len
+    payload-length-requires
     add-if1
-    add-t11
+    add-no-room
+    no-room-requires
     returns
     sub-put-echo
     part-put-echo-start

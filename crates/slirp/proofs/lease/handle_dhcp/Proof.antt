@@ -19,17 +19,20 @@ use borrow.Author.Needs.{needs}
 use Rattle.slirp.proofs.lease.handle_dhcp.Statement.{statement}
 use Rattle.slirp.proofs.lease.handle_dhcp.Tie as tie
 
+no-room-requires : tie.Need-no-room-requires
+no-room-requires c κs = search needs
+
 returns : tie.Need-returns
-returns c = too-small _ _ 342 _ _ _ 342 refl (c .if1 .taken)
+returns c = rw (c .no-room .ensures) (too-small _ _ 342 _ _ _ 342 refl (c .before .if1 .taken))
+
+eth-src-requires : tie.Need-eth-src-requires
+eth-src-requires c κs = search needs
 
 put-datagram-requires : tie.Need-put-datagram-requires
 put-datagram-requires c κs = search needs
 
 noted-requires : tie.Need-noted-requires
 noted-requires c κs = search needs
-
-eth-src-requires : tie.Need-eth-src-requires
-eth-src-requires c κs = search needs
 
 broadcast-requires : tie.Need-broadcast-requires
 broadcast-requires c κs = search needs
@@ -56,18 +59,19 @@ returns-2 c =
     } in
     let six = sym (length-map (a .guest .mac) _) ∙ start .good .1 .0 .1 .1 .0 .1 .0 .1 in
     let long : 308 ≡ length (datagram 68 67 message) = omega (arith, reply-reads-back (a .net) (a .guest .mac) (a .xid) (a .kind) four six .long, length-datagram 68 67 message) in
-    let made = rw (c .before .before .before .before .before .before .noted .ensures) at (c .before .before .make-ip-frame-in-place .ensures) in
+    let made = rw (c .before .before .before .before .before .noted .ensures) at (c .before .before .make-ip-frame-in-place .ensures) in
     framed-in-place (sourceMac frame) (a .net .gateway) (broadcastOf (a .net)) refl (four .gateway) refl (a .guest) (noting (a .xid) (a .guest)) 342 17 (datagram 68 67 message) (a .reply .now)
-    308 _ _ _ _ _ _ (c .before .before .before .before .before .eth-src .ensures) refl (c .before .before .before .before .broadcast .ensures) long (c .before .before .before .before .before .before .before .before .before .put-datagram .ensures) refl (omega arith) (c .before .before .before .before .before .before .before .before .before .before .before .before .before .if1 .left) made
+    308 _ _ _ _ _ _ (c .before .before .before .before .before .before .before .before .before .before .before .eth-src .ensures) refl (c .before .before .before .before .broadcast .ensures) long (c .before .before .before .before .before .before .before .before .put-datagram .ensures) refl (omega arith) (c .before .before .before .before .before .before .before .before .before .before .before .before .before .if1 .left) made
 
 pub handle-dhcp-spec : {M : Type 1} → statement M
 handle-dhcp-spec =
     tie.close
     (tie.spec
+    no-room-requires
     returns
+    eth-src-requires
     put-datagram-requires
     noted-requires
-    eth-src-requires
     broadcast-requires
     make-ip-frame-in-place-requires
     same-length
