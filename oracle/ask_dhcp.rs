@@ -9,7 +9,7 @@ use crate::draws::{BROADCAST_IP, GATEWAY_IP, GATEWAY_MAC, GUEST_IP};
 /// Where the options start. A shorter message is dropped.
 pub const OPTIONS_AT: usize = 240;
 pub const COOKIE: [u8; 4] = [0x63, 0x82, 0x53, 0x63];
-const COOKIE_AT: usize = 236;
+pub const COOKIE_AT: usize = 236;
 /// In a frame the reply stands behind 42 bytes of headers, and its type's value behind 53 and 1.
 const REPLY_TYPE_AT: usize = 42 + OPTIONS_AT + 2;
 
@@ -48,7 +48,7 @@ fn made_a_request(message: &[u8]) -> Vec<u8> {
 }
 
 /// What the call gives, or where it panics the text of that, which then is not printed.
-fn text_of_panic<T>(call: impl FnOnce() -> T) -> Result<T, String> {
+pub fn text_of_panic<T>(call: impl FnOnce() -> T) -> Result<T, String> {
     let hook = panic::take_hook();
     panic::set_hook(Box::new(|_| {}));
     let outcome = panic::catch_unwind(AssertUnwindSafe(call));
@@ -57,7 +57,7 @@ fn text_of_panic<T>(call: impl FnOnce() -> T) -> Result<T, String> {
 }
 
 /// The Rust panics on the value, two bytes behind the option's code.
-fn place_of_cut(text: &str, message: &[u8]) -> usize {
+pub fn place_of_cut(text: &str, message: &[u8]) -> usize {
     let (len, index) = text
         .strip_prefix("index out of bounds: the len is ")
         .and_then(|numbers| numbers.split_once(" but the index is "))

@@ -7,14 +7,14 @@ use crate::draws::{DHCP_SEED, Draws, GUEST_MAC};
 use crate::lines::ruled_bytes;
 
 /// Messages of a real client, and messages put together by hand; each file says how.
-const CLIENT_MESSAGES: [&str; 2] = [
+pub const CLIENT_MESSAGES: [&str; 2] = [
     include_str!("dhcp_captured.txt"),
     include_str!("dhcp_composed.txt"),
 ];
 
-const PAD: u8 = 0;
-const TYPE: u8 = 53;
-const END: u8 = 255;
+pub const PAD: u8 = 0;
+pub const TYPE: u8 = 53;
+pub const END: u8 = 255;
 
 const SMALL_ALPHABET: [u8; 7] = [PAD, 1, 12, TYPE, 54, 254, END];
 const CODES: [u8; 6] = [1, 12, 52, TYPE, 54, 254];
@@ -292,7 +292,7 @@ fn starts(list: &mut DhcpList) {
 }
 
 /// Pads, 53s, ENDs and small lengths come up often, and between them any byte at all.
-fn option_bytes(draws: &mut Draws, len: usize) -> Vec<u8> {
+pub fn option_bytes(draws: &mut Draws, len: usize) -> Vec<u8> {
     let mut option_byte = || {
         let (small, any) = (draws.below(5) as u8, draws.byte());
         draws.one_of(&[PAD, PAD, TYPE, END, small, small, small, small, any])
@@ -310,7 +310,7 @@ fn drawn_options(list: &mut DhcpList) {
 }
 
 /// Options that are stepped over, `len` bytes or a few more.
-fn passed_options(draws: &mut Draws, len: usize) -> Vec<u8> {
+pub fn passed_options(draws: &mut Draws, len: usize) -> Vec<u8> {
     let mut options = vec![];
     while options.len() < len {
         let value_len = draws.below(5);
@@ -405,7 +405,7 @@ fn client_messages(list: &mut DhcpList, file: &str) {
     }
 }
 
-fn bytes_of(line: &str) -> Vec<u8> {
+pub fn bytes_of(line: &str) -> Vec<u8> {
     let digits: Vec<char> = line.chars().filter(|digit| *digit != ' ').collect();
     digits
         .chunks(2)

@@ -1,8 +1,9 @@
 //! Draws that are the same in every run: xorshift64 from a fixed seed.
 
-/// The DHCP lists have a seed of their own, so that neither list moves the other's draws.
+/// Each list has a seed of its own, so that none moves another's draws.
 pub const BUILDERS_SEED: u64 = 0x9e37_79b9_7f4a_7c15;
 pub const DHCP_SEED: u64 = 0x2545_f491_4f6c_dd1d;
+pub const GATEWAY_SEED: u64 = 0xd1b5_4a32_d192_ed03;
 
 pub const GATEWAY_IP: [u8; 4] = [10, 0, 2, 2];
 pub const GUEST_IP: [u8; 4] = [10, 0, 2, 15];

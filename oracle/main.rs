@@ -1,14 +1,20 @@
 //! The driver: calls the published Rust and prints what it answers.
 
 mod ask_dhcp;
+mod ask_gateway;
 mod builder_vectors;
 mod cases;
 mod dhcp_cases;
 mod dhcp_vectors;
+mod document_01;
 mod draws;
+mod gateway_cases;
+mod gateway_vectors;
+mod guest_frames;
 mod lines;
 
 fn main() {
     print!("{}", builder_vectors::list());
     print!("{}", dhcp_vectors::list());
+    print!("{}", gateway_vectors::list());
 }

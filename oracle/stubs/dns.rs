@@ -1,17 +1,19 @@
-//! The module `dns` of `slirp` is not in the text: a query is taken and left at that.
+//! The module `dns` of `slirp` is not in the text: where a query lay is noted, and it is left at that.
 
 use super::SlirpBackend;
+use crate::handed::{self, To};
 
 pub(super) enum DnsPending {}
 
 impl SlirpBackend {
     pub(super) fn handle_dns(
         &mut self,
-        _query: &[u8],
+        query: &[u8],
         _guest_mac: [u8; 6],
         _src_ip: [u8; 4],
         _src_port: u16,
     ) {
+        handed::note(To::Dns, query);
     }
 
     pub(super) fn poll_dns(&mut self) {}

@@ -1,6 +1,7 @@
 //! The crate `published`: vpod's `slirp` as published, and stubs for what its text calls on but
 //! does not hold. Only `slirp` is foreign, so only there are warnings off.
 
+pub mod handed;
 mod trace;
 mod udp_socket;
 

@@ -1,11 +1,12 @@
-//! The module `tcp` of `slirp` is not in the text: a segment is taken and left at that, and no
-//! connection is ever made.
+//! The module `tcp` of `slirp` is not in the text: the frame handed over is noted and left at
+//! that, and no connection is ever made.
 
 // Here because a module inside `slirp` sees the builders, and `slirp` itself declares no other.
 #[path = "builders.rs"]
 mod builders;
 
 use super::SlirpBackend;
+use crate::handed::{self, To};
 
 #[derive(PartialEq, Eq, Hash)]
 pub(super) enum TcpKey {}
@@ -36,7 +37,9 @@ impl Transport {
 }
 
 impl SlirpBackend {
-    pub(super) fn handle_tcp(&mut self, _frame: &[u8]) {}
+    pub(super) fn handle_tcp(&mut self, frame: &[u8]) {
+        handed::note(To::Tcp, frame);
+    }
 
     pub(super) fn poll_tcp(&mut self) {}
 }

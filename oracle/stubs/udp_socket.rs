@@ -1,14 +1,10 @@
 //! Takes the place of `std::net::UdpSocket` in udp.rs: it opens nothing and sends nothing, it only
 //! notes where the slice lay that it was handed.
 
-use std::cell::Cell;
 use std::io::{Error, ErrorKind, Result};
 use std::net::{SocketAddr, SocketAddrV4};
 
-thread_local! {
-    /// Address and length of the slice last handed to `send_to`.
-    pub static LAST_SENT: Cell<Option<(usize, usize)>> = const { Cell::new(None) };
-}
+use crate::handed::{self, To};
 
 pub struct UdpSocket;
 
@@ -22,7 +18,7 @@ impl UdpSocket {
     }
 
     pub fn send_to(&self, data: &[u8], _destination: SocketAddrV4) -> Result<usize> {
-        LAST_SENT.set(Some((data.as_ptr() as usize, data.len())));
+        handed::note(To::Relay, data);
         Ok(data.len())
     }
 

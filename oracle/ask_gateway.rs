@@ -1,0 +1,206 @@
+//! The Rust's gateway, asked: what it does with one frame, and whose answer a line about it holds.
+
+use published::handed::{self, To};
+use published::{NetworkBackend, SlirpBackend};
+
+use crate::ask_dhcp::{place_of_cut, text_of_panic};
+use crate::document_01::{self, Answer, Record, Verdict};
+use crate::guest_frames::{BODY_AT, DATA_AT, PAYLOAD_AT, TOTAL_LENGTH_AT, xid_bringer};
+
+/// Whose answer a line holds.
+#[derive(Clone, Copy, Debug, PartialEq, Eq, PartialOrd, Ord)]
+pub enum Whose {
+    /// The Rust's own, and document 01's too.
+    TheRust = 0,
+    /// Document 01's, and the Rust panics.
+    WherePanics = 1,
+    /// Document 01's, and the Rust cuts a length to 16 bits.
+    WhereCuts = 2,
+    /// Document 01's, since the Rust knows no buffer and the room is less than what it built.
+    WhereNoRoom = 3,
+}
+
+/// What the Rust did with a frame.
+#[derive(Debug)]
+enum Deed {
+    Nothing,
+    Sent(Vec<u8>),
+    /// What it handed on, and where that lies in the frame.
+    Handed(To, usize, usize),
+    Panicked(String),
+}
+
+/// A gateway of the Rust's. It follows the id counter, which belongs to the process.
+pub struct Gateway {
+    backend: SlirpBackend,
+    next_id: u16,
+}
+
+impl Gateway {
+    pub fn new() -> Self {
+        let mut gateway = Gateway {
+            backend: SlirpBackend::new([0; 6]),
+            next_id: 0,
+        };
+        gateway.next_id = gateway.spend_id().wrapping_add(1);
+        gateway
+    }
+
+    pub fn next_id(&self) -> u16 {
+        self.next_id
+    }
+
+    /// Builds a frame that is not listed, and gives back the id it took.
+    fn spend_id(&mut self) -> u16 {
+        let frame = SlirpBackend::make_ip_frame(&[0; 6], &[0; 4], &[0; 4], 0, &[]);
+        self.next_id = self.next_id.wrapping_add(1);
+        u16::from_be_bytes([frame[18], frame[19]])
+    }
+
+    /// A new gateway with this record.
+    fn start_with(&mut self, record: Record) {
+        self.backend = SlirpBackend::new(record.mac);
+        self.bring_to(record);
+    }
+
+    /// Brings xid and id to the record's, where they are not that already.
+    fn bring_to(&mut self, record: Record) {
+        if self.backend.dhcp_xid() != record.xid {
+            self.backend.send(&xid_bringer(record.xid));
+        }
+        while self.next_id != record.id {
+            let id = self.next_id;
+            assert_eq!(self.spend_id(), id);
+        }
+        assert_eq!(self.backend.dhcp_xid(), record.xid);
+        assert_eq!(self.backend.recv(), None);
+    }
+
+    /// The answer to a call with this record, by a gateway that has served nothing before. Behind it
+    /// the counter is looked at.
+    pub fn ask(&mut self, record: Record, frame: &[u8], room: usize) -> (Answer, Whose) {
+        self.start_with(record);
+        let answer = self.answer(record, frame, room);
+        let id = self.next_id;
+        assert_eq!(self.spend_id(), id);
+        answer
+    }
+
+    /// The answer of the gateway that answered last. Where that was document 01's answer and not the
+    /// Rust's, the Rust is first brought to the record that document 01 says.
+    pub fn ask_on(&mut self, record: Record, frame: &[u8], room: usize) -> (Answer, Whose) {
+        self.bring_to(record);
+        self.answer(record, frame, room)
+    }
+
+    fn answer(&mut self, record: Record, frame: &[u8], room: usize) -> (Answer, Whose) {
+        let said = document_01::answer(record, frame, room);
+        let deed = self.deed(frame);
+        let whose = match &deed {
+            Deed::Panicked(text) => {
+                check_panic(text, frame, said.verdict);
+                Whose::WherePanics
+            }
+            Deed::Sent(sent) if sent.len() - PAYLOAD_AT > 65_515 => {
+                check_cut(sent, said.verdict);
+                Whose::WhereCuts
+            }
+            Deed::Sent(sent) if room < sent.len() => {
+                assert_eq!(said.verdict, Verdict::NoRoom(sent.len()));
+                Whose::WhereNoRoom
+            }
+            _ => Whose::TheRust,
+        };
+        let after = Record {
+            id: self.next_id,
+            xid: self.backend.dhcp_xid(),
+            ..record
+        };
+        match whose {
+            Whose::TheRust => assert_eq!(said, answer_of(deed, after)),
+            Whose::WhereNoRoom => {
+                let with_room = document_01::answer(record, frame, usize::MAX);
+                assert_eq!(with_room, answer_of(deed, after));
+            }
+            Whose::WherePanics | Whose::WhereCuts => {}
+        }
+        if whose != Whose::TheRust {
+            assert!(said.after == record && said.reply.is_empty());
+        }
+        (said, whose)
+    }
+
+    /// Sends the frame. Each IPv4 frame that comes back took the next id.
+    fn deed(&mut self, frame: &[u8]) -> Deed {
+        assert_eq!(handed::take(), []);
+        let sent = text_of_panic(|| self.backend.send(frame));
+        let handed = handed::take();
+        let received = self.backend.recv();
+        assert_eq!(self.backend.recv(), None);
+        match (sent, &handed[..], received) {
+            (Ok(()), [], None) => Deed::Nothing,
+            (Ok(()), [], Some(reply)) => {
+                if reply[12..BODY_AT] == [0x08, 0x00] {
+                    assert_eq!(reply[18..20], self.next_id.to_be_bytes());
+                    self.next_id = self.next_id.wrapping_add(1);
+                }
+                Deed::Sent(reply)
+            }
+            (Ok(()), [(to, place, len)], None) => {
+                let start = place - frame.as_ptr() as usize;
+                assert!(start + len <= frame.len());
+                Deed::Handed(*to, start, *len)
+            }
+            (Err(text), [], None) => Deed::Panicked(text),
+            deeds => panic!("more than one deed: {deeds:?}"),
+        }
+    }
+}
+
+fn answer_of(deed: Deed, after: Record) -> Answer {
+    let (verdict, reply) = match deed {
+        Deed::Nothing => (Verdict::Drop, vec![]),
+        Deed::Sent(reply) => (Verdict::Reply(reply.len()), reply),
+        Deed::Handed(To::Dns, start, len) => (Verdict::Dns { start, len }, vec![]),
+        Deed::Handed(To::Relay, start, len) => (Verdict::Relay { start, len }, vec![]),
+        Deed::Handed(To::Tcp, start, len) => {
+            assert_eq!(start, 0);
+            (Verdict::Tcp(len), vec![])
+        }
+        Deed::Panicked(text) => panic!("{text}"),
+    };
+    Answer {
+        verdict,
+        reply,
+        after,
+    }
+}
+
+/// The panic is that of a payload past the frame, or of a 53 whose value is not there.
+fn check_panic(text: &str, frame: &[u8], verdict: Verdict) {
+    let payload_at = BODY_AT + 4 * (frame[BODY_AT] % 16) as usize;
+    match verdict {
+        Verdict::Drop => {
+            let len = frame.len();
+            let past =
+                format!("range start index {payload_at} out of range for slice of length {len}");
+            assert_eq!(text, past);
+        }
+        Verdict::CutType(place) => {
+            let data_at = payload_at + DATA_AT - PAYLOAD_AT;
+            let length = u16::from_be_bytes([frame[data_at - 4], frame[data_at - 3]]) as usize;
+            let data_end = frame.len().min(data_at - 8 + length);
+            assert_eq!(place_of_cut(text, &frame[data_at..data_end]), place);
+        }
+        _ => panic!("{text}, and document 01 says {verdict:?}"),
+    }
+}
+
+/// What the Rust sent says a total length that is not its own.
+fn check_cut(sent: &[u8], verdict: Verdict) {
+    let payload_len = sent.len() - PAYLOAD_AT;
+    let at = TOTAL_LENGTH_AT;
+    let total_length = u16::from_be_bytes([sent[at], sent[at + 1]]) as usize;
+    assert_eq!(total_length, (20 + payload_len) % 65_536);
+    assert_eq!(verdict, Verdict::TooLong(payload_len));
+}

@@ -1,0 +1,299 @@
+//! A case of the gateway's list: a call with its record, room and frame, the answer to it, and its
+//! line.
+
+use std::collections::BTreeMap;
+
+use crate::ask_gateway::{Gateway, Whose};
+use crate::cases::MOST_ROOM;
+use crate::document_01::{Answer, Record, Verdict};
+use crate::draws::{Draws, GATEWAY_MAC, GATEWAY_SEED, GUEST_MAC};
+use crate::lines::{ALL_ONES, Lines, hex, ruled_bytes};
+
+const WITH_RECORD: u8 = 0x0d;
+const GOES_ON: u8 = 0x0e;
+
+const WRITTEN: u8 = 1;
+const ZEROS: u8 = 2;
+const BY_RULE: u8 = 3;
+const OF_FRAME: u8 = 4;
+const USUAL_MACS: u8 = 5;
+const MOST_WRITTEN: usize = 255;
+/// Shorter runs are written out, since a piece of its own costs more.
+const SHORTEST_ZEROS: usize = 6;
+const SHORTEST_RULED: usize = 9;
+const SHORTEST_COPY: usize = 12;
+
+/// The room that `gwone` lends, and more than most replies take.
+pub const USUAL_ROOM: usize = 2_048;
+
+pub struct GatewayList {
+    pub draws: Draws,
+    pub lines: Lines,
+    rust: Gateway,
+    /// The record that the last call left.
+    record: Record,
+    counts: BTreeMap<(Whose, u8), usize>,
+    in_group: BTreeMap<Whose, usize>,
+}
+
+impl GatewayList {
+    pub fn new() -> Self {
+        GatewayList {
+            draws: Draws::new(GATEWAY_SEED),
+            lines: Lines::new(),
+            rust: Gateway::new(),
+            record: Record {
+                mac: [0; 6],
+                id: 1,
+                xid: 0,
+            },
+            counts: BTreeMap::new(),
+            in_group: BTreeMap::new(),
+        }
+    }
+
+    /// Lists a group of calls, and behind it whose answers those are.
+    pub fn group(&mut self, words: &str, add_cases: impl FnOnce(&mut Self)) {
+        self.in_group.clear();
+        self.lines.comment(words);
+        add_cases(self);
+        self.lines.comment(&of_whom(&self.in_group));
+    }
+
+    /// Any record, its id not far from where the Rust's counter stands: to bring it there takes a
+    /// frame for each id.
+    pub fn drawn_record(&mut self) -> Record {
+        let step = self.draws.below(60) as u16;
+        Record {
+            mac: self.draws.mac(),
+            id: self.rust.next_id().wrapping_add(step),
+            xid: self.draws.word(),
+        }
+    }
+
+    /// Lists a call with a drawn record and the usual room.
+    pub fn frame(&mut self, frame: &[u8]) -> Verdict {
+        let record = self.drawn_record();
+        self.call(record, frame, USUAL_ROOM)
+    }
+
+    pub fn frame_in(&mut self, frame: &[u8], room: usize) -> Verdict {
+        let record = self.drawn_record();
+        self.call(record, frame, room)
+    }
+
+    /// Lists a call with each room around the bytes that the reply takes.
+    pub fn rooms(&mut self, frame: &[u8]) {
+        let Verdict::Reply(n) = self.frame_in(frame, MOST_ROOM) else {
+            panic!("the frame gets no reply");
+        };
+        for room in [0, 1, n - 1, n, n + 1] {
+            self.frame_in(frame, room);
+        }
+        let (shorter, larger) = (self.draws.below(n), self.draws.below(MOST_ROOM - n));
+        self.frame_in(frame, shorter);
+        self.frame_in(frame, n + larger);
+        if n != USUAL_ROOM {
+            self.frame(frame);
+        }
+    }
+
+    /// Lists a call with its record.
+    pub fn call(&mut self, record: Record, frame: &[u8], room: usize) -> Verdict {
+        let (answer, whose) = self.rust.ask(record, frame, room);
+        let before = format!(" {:04x}{:08x}", record.id, record.xid);
+        self.add(WITH_RECORD, &before, frame, room, &answer, whose)
+    }
+
+    /// Lists a call that goes on with the record of the one before.
+    pub fn next_call(&mut self, frame: &[u8], room: usize) -> Verdict {
+        let (answer, whose) = self.rust.ask_on(self.record, frame, room);
+        self.add(GOES_ON, "", frame, room, &answer, whose)
+    }
+
+    pub fn record(&self) -> Record {
+        self.record
+    }
+
+    fn add(
+        &mut self,
+        kind: u8,
+        before: &str,
+        frame: &[u8],
+        room: usize,
+        answer: &Answer,
+        whose: Whose,
+    ) -> Verdict {
+        let Answer {
+            verdict,
+            reply,
+            after,
+        } = answer;
+        let (number, value, len) = numbers(*verdict);
+        let frame_pieces = pieces(frame, &[]);
+        let reply_pieces = pieces(reply, frame);
+        assert!(laid(&frame_pieces, &[]) == *frame);
+        assert!(laid(&reply_pieces, frame) == *reply);
+        let line = format!(
+            "{kind:02x}{before} {}{:04x}{:08x} {:02x}{room:08x}{number:02x}{value:08x}{len:04x} {:04x}{} {}",
+            hex(&after.mac),
+            after.id,
+            after.xid,
+            whose as u8,
+            frame_pieces.len(),
+            hex(&frame_pieces),
+            hex(&reply_pieces),
+        );
+        self.lines.add(kind, Some(number), &line);
+        self.record = *after;
+        *self.counts.entry((whose, number)).or_default() += 1;
+        *self.in_group.entry(whose).or_default() += 1;
+        *verdict
+    }
+
+    /// Ends the list with its counts.
+    pub fn finish(mut self) -> String {
+        for ((whose, number), calls) in std::mem::take(&mut self.counts) {
+            self.lines
+                .comment(&format!("verdict {number:02x}, {whose:?}: {calls} calls"));
+        }
+        self.lines.finish()
+    }
+}
+
+fn of_whom(counts: &BTreeMap<Whose, usize>) -> String {
+    let count = |whose| counts.get(&whose).copied().unwrap_or(0);
+    format!(
+        "answers of the Rust: {}; it panics: {}; cuts: {}; has no buffer: {}",
+        count(Whose::TheRust),
+        count(Whose::WherePanics),
+        count(Whose::WhereCuts),
+        count(Whose::WhereNoRoom),
+    )
+}
+
+/// The verdict's number, its value, and the length of data where it has one.
+fn numbers(verdict: Verdict) -> (u8, usize, usize) {
+    match verdict {
+        Verdict::Drop => (0, 0, 0),
+        Verdict::Reply(n) => (1, n, 0),
+        Verdict::Dns { start, len } => (2, start, len),
+        Verdict::Relay { start, len } => (3, start, len),
+        Verdict::Tcp(len) => (4, len, 0),
+        Verdict::NoRoom(needed) => (5, needed, 0),
+        Verdict::TooLong(len) => (6, len, 0),
+        Verdict::CutType(place) => (7, place, 0),
+    }
+}
+
+/// The bytes as pieces: long runs of zeros, by rule or out of the frame are named, and the rest is
+/// written out.
+fn pieces(bytes: &[u8], frame: &[u8]) -> Vec<u8> {
+    let mut pieces = vec![];
+    let (mut at, mut written_from) = (0, 0);
+    while at < bytes.len() {
+        let Some((run, named)) = named_run(bytes, at, frame) else {
+            at += 1;
+            continue;
+        };
+        write_out(&mut pieces, &bytes[written_from..at]);
+        pieces.extend(named);
+        at += run;
+        written_from = at;
+    }
+    write_out(&mut pieces, &bytes[written_from..]);
+    pieces
+}
+
+fn write_out(pieces: &mut Vec<u8>, bytes: &[u8]) {
+    for chunk in bytes.chunks(MOST_WRITTEN) {
+        pieces.extend([WRITTEN, chunk.len() as u8]);
+        pieces.extend(chunk);
+    }
+}
+
+/// The longest run from here on that can be named, and the piece that names it.
+fn named_run(bytes: &[u8], at: usize, frame: &[u8]) -> Option<(usize, Vec<u8>)> {
+    let remaining = &bytes[at..];
+    if remaining.starts_with(&usual_macs()) {
+        return Some((usual_macs().len(), vec![USUAL_MACS]));
+    }
+    let zeros = common(remaining.iter().copied(), std::iter::repeat(0)).min(65_535);
+    if zeros >= SHORTEST_ZEROS {
+        return Some((zeros, [&[ZEROS][..], &be16(zeros)].concat()));
+    }
+    // What is echoed stands as far from the frame's end as from the reply's.
+    let place = (frame.len() + at).checked_sub(bytes.len());
+    let copied = place.map_or(0, |place| {
+        common(remaining.iter(), frame.get(place..).unwrap_or(&[]).iter())
+    });
+    if copied >= SHORTEST_COPY {
+        let named = [&[OF_FRAME][..], &be32(place?), &be32(copied)];
+        return Some((copied, named.concat()));
+    }
+    let seed = remaining[0];
+    let ruled = common(remaining.iter().copied(), by_rule(seed));
+    if seed != 0 && (seed < 251 || seed == ALL_ONES) && ruled >= SHORTEST_RULED {
+        return Some((ruled, [&[BY_RULE, seed][..], &be32(ruled)].concat()));
+    }
+    None
+}
+
+/// The first bytes of most frames: to the gateway, from the guest.
+fn usual_macs() -> Vec<u8> {
+    [GATEWAY_MAC, GUEST_MAC].concat()
+}
+
+/// How far two run alike.
+fn common<T: PartialEq>(one: impl Iterator<Item = T>, other: impl Iterator<Item = T>) -> usize {
+    one.zip(other).take_while(|(a, b)| a == b).count()
+}
+
+fn by_rule(seed: u8) -> impl Iterator<Item = u8> {
+    let step = if seed == ALL_ONES { 0 } else { 17 };
+    let modulus = if seed == ALL_ONES { 256 } else { 251 };
+    (0..).map(move |i: usize| ((seed as usize + step * i) % modulus) as u8)
+}
+
+fn be16(number: usize) -> [u8; 2] {
+    (number as u16).to_be_bytes()
+}
+
+fn be32(number: usize) -> [u8; 4] {
+    (number as u32).to_be_bytes()
+}
+
+/// The bytes that pieces stand for, as oracle/README.md says.
+fn laid(mut pieces: &[u8], frame: &[u8]) -> Vec<u8> {
+    let number = |bytes: &[u8]| bytes.iter().fold(0, |n, byte| 256 * n + *byte as usize);
+    let mut bytes = vec![];
+    while let [kind, fields @ ..] = pieces {
+        let behind = match *kind {
+            WRITTEN => {
+                let end = 1 + fields[0] as usize;
+                bytes.extend(&fields[1..end]);
+                end
+            }
+            ZEROS => {
+                bytes.extend(vec![0; number(&fields[..2])]);
+                2
+            }
+            BY_RULE => {
+                bytes.extend(ruled_bytes(fields[0], number(&fields[1..5])));
+                5
+            }
+            OF_FRAME => {
+                let (at, len) = (number(&fields[..4]), number(&fields[4..8]));
+                bytes.extend(&frame[at..at + len]);
+                8
+            }
+            USUAL_MACS => {
+                bytes.extend(usual_macs());
+                0
+            }
+            other => panic!("no piece has the kind {other}"),
+        };
+        pieces = &fields[behind..];
+    }
+    bytes
+}
