@@ -23,10 +23,10 @@ const UNTOUCHED: u8 = 0xa5;
 
 // The largest input, with a byte to spare. Of this and the next two the contract gives only the
 // length: that is all their users need.
-pub fn longest_input() -> [u8; 393216]
-    ensures { λ r. ⌜ 393216 ≡ length r ⌝ }
+pub fn longest_input() -> [u8; 1179648]
+    ensures { λ r. ⌜ 1179648 ≡ length r ⌝ }
 {
-    [0; 393216]
+    [0; 1179648]
 }
 
 // Room for the longest payload of a line.
@@ -104,7 +104,7 @@ fn is_frame(head: &[u8], payload: &[u8], n: usize, out: &[u8]) -> bool {
         && is_untouched(&out[n..])
 }
 
-fn is_untouched(s: &[u8]) -> bool {
+pub fn is_untouched(s: &[u8]) -> bool {
     let mut i = 0;
     while i < s.len() {
         if s[i] != UNTOUCHED {

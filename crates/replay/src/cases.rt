@@ -46,7 +46,7 @@ const DHCP_REPLY: u8 = 11;
 const REPLY_TYPES: u8 = 12;
 
 // A line whose kind has the bit 0x80 set is spoiled: it is right to find it wrong.
-const SPOILED: u8 = 0x80;
+pub const SPOILED: u8 = 0x80;
 
 pub fn judge(line: &[u8]) -> Case {
     let kind = byte_at(line, 0);

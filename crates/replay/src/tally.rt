@@ -1,7 +1,11 @@
 // How many cases of each kind agreed and how many did not.
 
-// A row for each kind of line; no line has the kinds 0 and 4.
-const ROWS: usize = 13;
+// A row for each kind of line; no line has the kinds 0 and 4. Behind them one for each verdict of a
+// gateway call, and then one for each way in which its answer is the Rust's or document 01's.
+const ROWS: usize = 25;
+
+// Up to here each case is in one row: the rows behind count gateway calls once more.
+const ONCE: usize = 21;
 
 // Lines that are no case; none agrees.
 pub const UNREAD_ROW: usize = 0;
@@ -9,16 +13,20 @@ pub const UNREAD_ROW: usize = 0;
 // Lines spoiled on purpose, which agree where they are found wrong.
 pub const SPOILED_ROW: usize = 4;
 
+pub const VERDICT_ROWS: usize = 13;
+
+pub const WHOSE_ROWS: usize = ONCE;
+
 pub struct Tally {
-    pub right: [u64; 13],
-    pub wrong: [u64; 13],
+    pub right: [u64; 25],
+    pub wrong: [u64; 25],
 }
 
 impl Tally {
     pub fn new() -> Tally {
         Tally {
-            right: [0; 13],
-            wrong: [0; 13],
+            right: [0; 25],
+            wrong: [0; 25],
         }
     }
 
@@ -46,9 +54,9 @@ pub fn print(tally: Tally) {
     print_count(total(wrong), b" do not\n");
 }
 
-fn total(counts: [u64; 13]) -> u64 {
+fn total(counts: [u64; 25]) -> u64 {
     let mut sum: u64 = 0;
-    for row in 0..ROWS {
+    for row in 0..ONCE {
         sum = std::num::wrapping_add_u64(sum, counts[row]);
     }
     sum
@@ -83,6 +91,31 @@ fn print_name(row: usize) -> bool {
         9 => io::write_all(1, b"option walk: "),
         10 => io::write_all(1, b"message cut at every place: "),
         11 => io::write_all(1, b"DHCP reply: "),
-        _ => io::write_all(1, b"types of replies: "),
+        12 => io::write_all(1, b"types of replies: "),
+        _ => print_gateway_name(row),
+    }
+}
+
+fn print_gateway_name(row: usize) -> bool {
+    match row {
+        13 => io::write_all(1, b"gateway, drop: "),
+        14 => io::write_all(1, b"gateway, reply: "),
+        15 => io::write_all(1, b"gateway, DNS: "),
+        16 => io::write_all(1, b"gateway, relay: "),
+        17 => io::write_all(1, b"gateway, TCP handoff: "),
+        18 => io::write_all(1, b"gateway, no room: "),
+        19 => io::write_all(1, b"gateway, too long: "),
+        20 => io::write_all(1, b"gateway, cut message type: "),
+        _ => print_whose(row),
+    }
+}
+
+fn print_whose(row: usize) -> bool {
+    io::write_all(1, b"of the gateway's, ");
+    match row {
+        21 => io::write_all(1, b"the Rust's own answers: "),
+        22 => io::write_all(1, b"document 01's, where the Rust panics: "),
+        23 => io::write_all(1, b"document 01's, where the Rust cuts a length: "),
+        _ => io::write_all(1, b"document 01's, where the Rust knows no buffer: "),
     }
 }

@@ -8,13 +8,16 @@ use Rattle.replay.proofs.replay.Statement.{statement}
 use Rattle.replay.proofs.replay.Tie as tie
 
 abbrev Inv-loop : tie.InvT-loop
-Inv-loop text line₀ tally₀ at₀ line tally at = (at ≤ length text) × (length line ≡ length line₀)
+Inv-loop text line₀ run₀ at₀ line run at = (at ≤ length text) × (length line ≡ length line₀)
 
 abbrev μ-loop : tie.MeasureT-loop
-μ-loop text line₀ tally₀ at₀ line tally at = length text - at
+μ-loop text line₀ run₀ at₀ line run at = length text - at
 
 new-requires : tie.Need-new-requires Inv-loop μ-loop
 new-requires c κs = search needs
+
+new-requires-2 : tie.Need-new-requires-2 Inv-loop μ-loop
+new-requires-2 c κs = search needs
 
 loop-holds : tie.Need-loop-holds Inv-loop μ-loop
 loop-holds c = search needs
@@ -50,6 +53,7 @@ replay-spec =
     Inv-loop
     μ-loop
     new-requires
+    new-requires-2
     loop-holds
     decode-requires
     slice-reshare-prefix-judged

@@ -7,10 +7,10 @@ use Rattle.replay.proofs.tally.print.Statement.{statement}
 use Rattle.replay.proofs.tally.print.Tie as tie
 
 abbrev Inv-loop : tie.InvT-loop
-Inv-loop right wrong row₀ t5 t6 row = (row ≤ 13) × (length right ≡ 13) × (length wrong ≡ 13)
+Inv-loop right wrong row₀ t5 t6 row = (row ≤ 25) × (length right ≡ 25) × (length wrong ≡ 25)
 
 abbrev μ-loop : tie.MeasureT-loop
-μ-loop right wrong row₀ t5 t6 row = 13 - row
+μ-loop right wrong row₀ t5 t6 row = 25 - row
 
 loop-holds : tie.Need-loop-holds Inv-loop μ-loop
 loop-holds c = search needs

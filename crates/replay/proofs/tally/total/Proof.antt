@@ -1,4 +1,4 @@
--- `tally::total` is safe and ends: it counts the rows.
+-- `tally::total` is safe and ends: it counts the rows up to the last that a case is in once.
 use Prim.Native.Nat.{_≤_, _-_}
 use mathlib.Core.Path.{_≡_}
 use lib.ListN.{length}
@@ -7,10 +7,10 @@ use Rattle.replay.proofs.tally.total.Statement.{statement}
 use Rattle.replay.proofs.tally.total.Tie as tie
 
 abbrev Inv-loop : tie.InvT-loop
-Inv-loop counts sum₀ row₀ sum row = (row ≤ 13) × (length counts ≡ 13)
+Inv-loop counts sum₀ row₀ sum row = (row ≤ 21) × (length counts ≡ 25)
 
 abbrev μ-loop : tie.MeasureT-loop
-μ-loop counts sum₀ row₀ sum row = 13 - row
+μ-loop counts sum₀ row₀ sum row = 21 - row
 
 loop-holds : tie.Need-loop-holds Inv-loop μ-loop
 loop-holds c = search needs
