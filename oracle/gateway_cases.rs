@@ -26,6 +26,13 @@ const SHORTEST_COPY: usize = 12;
 /// The room that `gwone` lends, and more than most replies take.
 pub const USUAL_ROOM: usize = 2_048;
 
+/// A record as a guest has it from the start.
+pub const FRESH: Record = Record {
+    mac: GUEST_MAC,
+    id: 1,
+    xid: 0,
+};
+
 pub struct GatewayList {
     pub draws: Draws,
     pub lines: Lines,
@@ -42,11 +49,7 @@ impl GatewayList {
             draws: Draws::new(GATEWAY_SEED),
             lines: Lines::new(),
             rust: Gateway::new(),
-            record: Record {
-                mac: [0; 6],
-                id: 1,
-                xid: 0,
-            },
+            record: FRESH,
             counts: BTreeMap::new(),
             in_group: BTreeMap::new(),
         }

@@ -1,31 +1,17 @@
 //! Which calls of the gateway are listed.
 
-use crate::ask_dhcp::{COOKIE, COOKIE_AT, OPTIONS_AT};
 use crate::cases::MOST_ROOM;
-use crate::dhcp_vectors::{
-    CLIENT_MESSAGES, END, PAD, TYPE, bytes_of, option_bytes, passed_options,
-};
+use crate::dhcp_vectors::{END, PAD, TYPE};
 use crate::document_01::{Record, Verdict};
-use crate::draws::{
-    BROADCAST_IP, Draws, GATEWAY_IP, GATEWAY_MAC, GATEWAY_SEED, GUEST_IP, GUEST_MAC,
-};
-use crate::gateway_cases::{GatewayList, USUAL_ROOM};
+use crate::drawn_frames::{drawn_frame, drawn_room};
+use crate::draws::{Draws, GATEWAY_IP, GATEWAY_MAC, GATEWAY_SEED, GUEST_IP, GUEST_MAC};
+use crate::gateway_cases::{FRESH, GatewayList, USUAL_ROOM};
+use crate::gateway_dhcp::*;
+use crate::gateway_sequences::{self, captured, messages};
 use crate::guest_frames::*;
 use crate::lines::ruled_bytes;
 
-/// Frames that an operating system sent; the lines of kind 08 are whole.
-const CAPTURED: &str = include_str!("captured.txt");
-
-/// A record as a guest has it from the start.
-const FRESH: Record = Record {
-    mac: GUEST_MAC,
-    id: 1,
-    xid: 0,
-};
-
 const PROTOCOLS: [u8; 10] = [0, 1, 2, 5, 6, 7, 16, 17, 18, 255];
-const DISCOVER: [u8; 4] = [TYPE, 1, 1, END];
-const REQUEST: [u8; 4] = [TYPE, 1, 3, END];
 
 const GROUPS: [(&str, fn(&mut GatewayList)); 37] = [
     ("document 01's cases", document_01s_cases),
@@ -82,22 +68,6 @@ const GROUPS: [(&str, fn(&mut GatewayList)); 37] = [
     ),
 ];
 
-const SEQUENCES: [(&str, fn(&mut GatewayList)); 4] = [
-    (
-        "a sequence: a guest starts, from a fresh record",
-        guest_starts,
-    ),
-    (
-        "a sequence: through id 65,535, refusals between",
-        through_the_wrap,
-    ),
-    ("a sequence: DHCP, the xid carried over", leases),
-    (
-        "a sequence: drawn frames and rooms, through id 65,535",
-        drawn_sequence,
-    ),
-];
-
 pub fn list() -> String {
     let mut list = GatewayList::new();
     let lines = &mut list.lines;
@@ -114,7 +84,7 @@ pub fn list() -> String {
     for (words, add_cases) in GROUPS {
         list.group(&format!("0d: {words}"), add_cases);
     }
-    for (words, add_calls) in SEQUENCES {
+    for (words, add_calls) in gateway_sequences::SEQUENCES {
         list.group(&format!("0d, then 0e: {words}"), add_calls);
     }
     list.finish()
@@ -172,7 +142,7 @@ fn document_01s_cases(list: &mut GatewayList) {
     }
 }
 
-/// Lists the frame's beginnings, each in a room that one of its replies fits.
+/// Lists the frame's beginnings, the empty one and the whole frame among them.
 fn cut_everywhere(list: &mut GatewayList, frame: &[u8]) {
     for end in 0..=frame.len() {
         list.frame(&frame[..end]);
@@ -234,18 +204,6 @@ fn arp_lengths(list: &mut GatewayList) {
     list.frame(&[arp(1, GATEWAY_IP), ruled_bytes(5, 3_000)].concat());
 }
 
-/// Each byte of the address one more and one less.
-fn near(address: [u8; 4]) -> Vec<[u8; 4]> {
-    let changed = |at: usize, change: u8| {
-        let mut near = address;
-        near[at] = near[at].wrapping_add(change);
-        near
-    };
-    (0..4)
-        .flat_map(|at| [changed(at, 1), changed(at, 255)])
-        .collect()
-}
-
 fn arp_tests(list: &mut GatewayList) {
     for operation in [0, 1, 2, 3, 0x0100, 0x0101, 0x0201, 0x8001, 0xff01, 0xffff] {
         list.frame(&arp(operation, GATEWAY_IP));
@@ -296,8 +254,8 @@ fn short_packets(list: &mut GatewayList) {
     }
 }
 
-/// Bytes that read as a ping and as a datagram wherever a payload starts: every fourth one is 8, and
-/// between them are small numbers.
+/// Bytes that read as a ping, or as a datagram to port 53 or from it, at whichever word of the header
+/// the payload starts.
 fn body_for_any_start(protocol: u8, len: usize) -> Vec<u8> {
     let four = match protocol {
         ICMP => [8, 0, 0, 0],
@@ -648,183 +606,6 @@ fn udp_long(list: &mut GatewayList) {
     }
 }
 
-fn dhcp_tests(list: &mut GatewayList) {
-    for len in [0, 1, 8, 236, 239, 240, 241, 242, 243, 244, 300] {
-        for first in [1, 2, 0, 255] {
-            let xid = list.draws.word();
-            let message = of_len(dhcp_message(xid, &REQUEST), len);
-            let message = match len {
-                0 => message,
-                _ => with(message, 0, &[first]),
-            };
-            list.frame(&dhcp(&message));
-        }
-    }
-    for first in [3, 128, 129] {
-        let message = with(dhcp_message(9, &REQUEST), 0, &[first]);
-        list.frame(&dhcp(&message));
-    }
-}
-
-fn dhcp_cookies(list: &mut GatewayList) {
-    let message = dhcp_message(0x6162_6364, &DISCOVER);
-    let others = [[0; 4], [0xff; 4], [0x63, 0x53, 0x82, 0x63]];
-    for cookie in near(COOKIE).into_iter().chain(others) {
-        list.frame(&dhcp(&with(message.clone(), COOKIE_AT, &cookie)));
-        let cut = [&message[..OPTIONS_AT], &[TYPE, 1]].concat();
-        list.frame(&dhcp(&with(cut, COOKIE_AT, &cookie)));
-    }
-}
-
-fn dhcp_types(list: &mut GatewayList) {
-    for message_type in (0..=9).chain([53, 127, 128, 129, 131, 254, 255]) {
-        let xid = list.draws.word();
-        list.frame(&dhcp(&dhcp_message(xid, &[TYPE, 1, message_type, END])));
-        list.frame(&dhcp(&dhcp_message(xid, &[TYPE, 2, message_type])));
-    }
-    let strings: [&[u8]; 30] = [
-        &[TYPE, 255, 1],
-        &[TYPE, 255, 3],
-        &[TYPE, 255],
-        &[PAD, TYPE, 1],
-        &[PAD, PAD, PAD, TYPE, 2],
-        &[12, 0, TYPE, 1],
-        &[12, 3, 1, 2, 3, TYPE, 7],
-        &[TYPE, 0, TYPE, 1],
-        &[TYPE, 0, TYPE, 0, TYPE, 1, 1],
-        &[TYPE, 0, END, TYPE, 1, 1],
-        &[12, 3, TYPE, 1, 1],
-        &[12, 3, TYPE, 1, 1, TYPE, 1, 3],
-        &[12, 2, TYPE, 1, 1],
-        &[12, 255, TYPE, 1, 1],
-        &[12, 1],
-        &[12],
-        &[12, 0],
-        &[PAD],
-        &[END],
-        &[TYPE, 1, 1, TYPE, 1, 3],
-        &[TYPE, 1, 3, TYPE, 1, 1],
-        &[TYPE, 1, 1, TYPE, 1],
-        &[END, TYPE, 1],
-        &[PAD, END, TYPE, 1],
-        &[52, 1, TYPE, TYPE, 1, 3],
-        &[54, 4, 10, 0, 2, 2, TYPE, 1, 3, END],
-        &[254, 1, 0, TYPE, 1, 1, END],
-        &[1, 4, 255, 255, 255, 0, TYPE, 1],
-        &[1, 4, 255, 255, 255, TYPE],
-        &[61, 7, 1, TYPE, 1, 1, TYPE, 1, 1, TYPE, 1, 3],
-    ];
-    for options in strings {
-        let xid = list.draws.word();
-        list.frame(&dhcp(&dhcp_message(xid, options)));
-    }
-    // A cut type far from the start, and one behind a long option.
-    for pads in [60, 255, 1_230] {
-        let options = [vec![PAD; pads], vec![TYPE, 1]].concat();
-        list.frame(&dhcp(&dhcp_message(3, &options)));
-    }
-    let behind_long = [&[12, 255][..], &[9; 255], &[TYPE, 1]].concat();
-    list.frame(&dhcp(&dhcp_message(4, &behind_long)));
-}
-
-/// The walk ends where the length field says, or before that where the frame ends.
-fn dhcp_cuts(list: &mut GatewayList) {
-    let options = [12, 1, 9, TYPE, 1, 3, END, TYPE, 1, 1];
-    let frame = dhcp(&dhcp_message(0x7172_7374, &options));
-    let whole = 8 + OPTIONS_AT + options.len();
-    for len in (whole - 12..=whole + 2).chain([0, 7, 8, 247, 248, 249, 65_535]) {
-        let length = (len as u16).to_be_bytes();
-        list.frame(&with(frame.clone(), UDP_LENGTH_AT, &length));
-    }
-    for cut in 1..=11 {
-        list.frame(&frame[..frame.len() - cut]);
-    }
-    // The length field says one byte less than the frame holds, and one more than it holds.
-    for (cut, short) in [
-        (4, 5),
-        (5, 4),
-        (4, 4),
-        (5, 6),
-        (6, 5),
-        (3, 4),
-        (7, 8),
-        (8, 7),
-    ] {
-        let length = ((whole - short) as u16).to_be_bytes();
-        let shorter = with(frame.clone(), UDP_LENGTH_AT, &length);
-        list.frame(&shorter[..frame.len() - cut]);
-    }
-}
-
-fn dhcp_drawn(list: &mut GatewayList) {
-    for turn in 0..60 {
-        let len = turn % 30;
-        let options = match turn % 2 {
-            0 => option_bytes(&mut list.draws, len),
-            _ => {
-                let passed = passed_options(&mut list.draws, len);
-                let kind = list.draws.one_of(&[1, 3, 3, 8]);
-                let end = [
-                    &[TYPE, 1, kind, END][..],
-                    &[TYPE, 1],
-                    &[TYPE],
-                    &[TYPE, 9, kind],
-                ];
-                [&passed[..], list.draws.one_of(&end)].concat()
-            }
-        };
-        let xid = list.draws.word();
-        list.frame(&dhcp(&dhcp_message(xid, &options)));
-    }
-}
-
-fn dhcp_records(list: &mut GatewayList) {
-    let xids = [
-        0,
-        1,
-        0x0000_00ff,
-        0x0100_0000,
-        0x8000_0000,
-        0xffff_ffff,
-        0x0102_0304,
-    ];
-    for (turn, xid) in xids.into_iter().enumerate() {
-        let options = [DISCOVER, REQUEST][turn % 2];
-        let frame = dhcp(&dhcp_message(xid, &options));
-        let mut record = list.drawn_record();
-        record.xid = xids[(turn + 3) % 7];
-        list.call(record, &frame, USUAL_ROOM);
-        // No cookie: the xid is taken all the same. With a first byte of 2 it is not.
-        let mut record = list.drawn_record();
-        record.xid = !xid;
-        list.call(record, &xid_bringer(xid), 0);
-        record = list.drawn_record();
-        list.call(record, &with(frame, DATA_AT, &[2]), 0);
-    }
-    for mac in [
-        [0; 6],
-        [0xff; 6],
-        GUEST_MAC,
-        [1, 2, 3, 4, 5, 6],
-        [0xfe, 0, 0, 0, 0, 0],
-    ] {
-        for sender in [GUEST_MAC, [0; 6], [0xff; 6]] {
-            let mut record = list.drawn_record();
-            record.mac = mac;
-            // The client's MAC in the message is a third one.
-            let message = with(dhcp_message(5, &DISCOVER), 28, &[7; 6]);
-            let frame = with(dhcp(&message), SOURCE_MAC_AT, &sender);
-            list.call(record, &frame, USUAL_ROOM);
-        }
-    }
-    // Refused for want of room, a call keeps the xid; and one that is dropped takes it.
-    for options in [&DISCOVER[..], &REQUEST, &[TYPE, 1, 8], &[TYPE, 1]] {
-        for room in [0, 341, 342, 343] {
-            list.frame_in(&dhcp(&dhcp_message(0x8182_8384, options)), room);
-        }
-    }
-}
-
 fn rooms(list: &mut GatewayList) {
     list.rooms(&arp(1, GATEWAY_IP));
     list.rooms(&of_len(arp(1, GATEWAY_IP), 60));
@@ -943,113 +724,6 @@ fn byte_changes(list: &mut GatewayList) {
     }
 }
 
-fn drawn_arp(draws: &mut Draws) -> Vec<u8> {
-    let any = draws.below(65_536) as u16;
-    let operation = draws.one_of(&[1, 1, 1, 1, 2, any]);
-    let target = drawn_target(draws);
-    let mut frame = arp(operation, target);
-    for (at, len) in [(SOURCE_MAC_AT, 6), (22, 10)] {
-        if draws.below(2) == 0 {
-            frame = with(frame, at, &draws.bytes(len));
-        }
-    }
-    frame
-}
-
-fn drawn_target(draws: &mut Draws) -> [u8; 4] {
-    let (any, near) = (draws.ip(), draws.one_of(&near(GATEWAY_IP)));
-    draws.one_of(&[GATEWAY_IP, GATEWAY_IP, GATEWAY_IP, BROADCAST_IP, any, near])
-}
-
-fn drawn_ping(draws: &mut Draws) -> Vec<u8> {
-    let any = draws.byte();
-    let (kind, code) = (
-        draws.one_of(&[8, 8, 8, 8, 0, any]),
-        draws.one_of(&[0, 0, any]),
-    );
-    let len = draws.below(30);
-    icmp(kind, code, &draws.bytes(len))
-}
-
-fn drawn_datagram(draws: &mut Draws) -> Vec<u8> {
-    let len = draws.below(30);
-    let datagram = datagram(draws.port(), draws.port(), &draws.bytes(len));
-    with_drawn_length(draws, datagram)
-}
-
-fn drawn_dhcp(draws: &mut Draws) -> Vec<u8> {
-    let len = draws.below(20);
-    let kind = draws.one_of(&[1, 3]);
-    let options = match draws.below(3) {
-        0 => option_bytes(draws, len),
-        1 => [passed_options(draws, len), vec![TYPE, 1]].concat(),
-        _ => [passed_options(draws, len), vec![TYPE, 1, kind]].concat(),
-    };
-    let mut message = dhcp_message(draws.word(), &options);
-    match draws.below(10) {
-        0 => message[0] = draws.byte(),
-        1 => message[COOKIE_AT + 1] = draws.byte(),
-        2 => message.truncate(236 + draws.below(8)),
-        _ => {}
-    }
-    let datagram = datagram(68, 67, &message);
-    with_drawn_length(draws, datagram)
-}
-
-/// The datagram, its length field mostly right.
-fn with_drawn_length(draws: &mut Draws, datagram: Vec<u8>) -> Vec<u8> {
-    let right = datagram.len() as u16;
-    let (any, near) = (
-        draws.below(65_536) as u16,
-        right - 1 + draws.below(3) as u16,
-    );
-    let length = draws.one_of(&[right, right, right, right, right, near, near, 7, 8, any]);
-    with(datagram, 4, &length.to_be_bytes())
-}
-
-fn drawn_frame(draws: &mut Draws) -> Vec<u8> {
-    let any_len = draws.below(30);
-    let frame = match draws.below(12) {
-        0 => drawn_arp(draws),
-        1 => ethernet(
-            draws.one_of(&[0x86dd, 0x0800, 0x0806]),
-            &draws.bytes(any_len),
-        ),
-        turn => {
-            let any = draws.byte();
-            let (protocol, payload) = match turn {
-                2..5 => (ICMP, drawn_ping(draws)),
-                5..8 => (UDP, drawn_datagram(draws)),
-                8..11 => (UDP, drawn_dhcp(draws)),
-                _ => (draws.one_of(&[TCP, TCP, any]), draws.bytes(any_len)),
-            };
-            let (nibble, any_nibble) = (5, draws.below(16));
-            let nibble = draws.one_of(&[nibble, nibble, nibble, nibble, 6, 15, any_nibble]);
-            let options = draws.bytes((4 * nibble).saturating_sub(20));
-            let target = drawn_target(draws);
-            let frame = packet(protocol, target, &[options, payload].concat());
-            let frame = with(frame, BODY_AT, &[0x40 + nibble as u8]);
-            match draws.below(3) {
-                0 => with(frame, SOURCE_MAC_AT, &draws.mac()),
-                1 => with(frame, SOURCE_AT, &draws.ip()),
-                _ => frame,
-            }
-        }
-    };
-    match draws.below(12) {
-        0 => frame[..draws.below(frame.len() + 1)].to_vec(),
-        1 => [frame, draws.bytes(any_len)].concat(),
-        _ => frame,
-    }
-}
-
-fn drawn_room(draws: &mut Draws) -> usize {
-    let any = draws.below(400);
-    draws.one_of(&[
-        USUAL_ROOM, USUAL_ROOM, USUAL_ROOM, USUAL_ROOM, 342, 341, any, any, 42, 41, 0, MOST_ROOM,
-    ])
-}
-
 fn drawn_frames(list: &mut GatewayList) {
     for _ in 0..220 {
         let frame = drawn_frame(&mut list.draws);
@@ -1058,23 +732,10 @@ fn drawn_frames(list: &mut GatewayList) {
     }
 }
 
-fn captured() -> Vec<Vec<u8>> {
-    let whole = CAPTURED.lines().filter_map(|line| line.strip_prefix("08 "));
-    whole.map(bytes_of).collect()
-}
-
 fn captured_frames(list: &mut GatewayList) {
     for frame in captured() {
         list.frame(&frame);
     }
-}
-
-fn messages() -> Vec<Vec<u8>> {
-    let lines = CLIENT_MESSAGES.iter().flat_map(|file| file.lines());
-    lines
-        .filter(|line| !line.is_empty() && !line.starts_with('#'))
-        .map(bytes_of)
-        .collect()
 }
 
 fn client_messages(list: &mut GatewayList) {
@@ -1084,92 +745,4 @@ fn client_messages(list: &mut GatewayList) {
             list.frame(&with(dhcp(message), TARGET_AT, &GATEWAY_IP));
         }
     }
-}
-
-/// From a fresh record: an address, the gateway's MAC, a name, a connection, pings.
-fn guest_starts(list: &mut GatewayList) {
-    let xid = 0x3903_f326;
-    let discover = dhcp(&dhcp_message(xid, &DISCOVER));
-    let request = dhcp(&dhcp_message(xid, &REQUEST));
-    list.call(FRESH, &discover, USUAL_ROOM);
-    for frame in [request, arp(1, GATEWAY_IP), dns_query(), syn(), ping(&[])] {
-        list.next_call(&frame, USUAL_ROOM);
-    }
-    let short = |frame: &Vec<u8>| frame.len() < 120;
-    for frame in captured().into_iter().filter(short) {
-        list.next_call(&frame, USUAL_ROOM);
-        list.next_call(&ping(&frame[34..38]), USUAL_ROOM);
-    }
-}
-
-/// From id 65,533 on, what spends an id and what does not by turns.
-fn through_the_wrap(list: &mut GatewayList) {
-    let start = Record {
-        mac: [2, 0, 0, 0, 0, 0x0c],
-        id: 65_533,
-        xid: 0xa1a2_a3a4,
-    };
-    list.call(start, &arp(1, GATEWAY_IP), USUAL_ROOM);
-    for turn in 0..7 {
-        let xid = 0xb000_0000 + turn;
-        let message = |options: &[u8]| dhcp(&dhcp_message(xid, options));
-        let calls = [
-            (ping(&ruled_bytes(0x30, 5)), 47),
-            (of_len(ping(&[]), 41), USUAL_ROOM),
-            (ping(&ruled_bytes(0x31, 65_508)), MOST_ROOM),
-            (ping(&[1, 2, 3]), 44),
-            (message(&[TYPE, 1]), USUAL_ROOM),
-            (message(&DISCOVER), 341),
-            (arp(1, GATEWAY_IP), 41),
-            (dns_query(), 0),
-            (
-                message(&[[DISCOVER, REQUEST][turn as usize % 2], [0; 4]].concat()),
-                342,
-            ),
-            (udp(5_000, ELSEWHERE, 6_000, &[]), 0),
-            (with(syn(), SOURCE_MAC_AT, &[9; 6]), 0),
-            (xid_bringer(!xid), 0),
-            (arp(1, GATEWAY_IP), 42),
-        ];
-        for (frame, room) in calls {
-            list.next_call(&frame, room);
-        }
-    }
-    assert_eq!(list.record().id, 65_533u16.wrapping_add(14));
-}
-
-/// The xid is taken, kept or refused by turns, and the reply's is always that of its request.
-fn leases(list: &mut GatewayList) {
-    let start = Record {
-        mac: [2, 0, 0, 0, 0, 0x0d],
-        id: 40_000,
-        xid: 0,
-    };
-    let messages = messages();
-    list.call(start, &dhcp(&messages[0]), USUAL_ROOM);
-    for (turn, message) in messages.iter().enumerate() {
-        let xid = list.draws.word();
-        let rooms = [342, 341, USUAL_ROOM, 0];
-        list.next_call(&dhcp(message), rooms[turn % 4]);
-        let options: [&[u8]; 5] = [&[TYPE, 1], &[TYPE, 1, 8], &DISCOVER, &[], &[TYPE, 0]];
-        let other = dhcp_message(xid, options[turn % 5]);
-        list.next_call(&dhcp(&other), rooms[turn % 3]);
-        let first = [1, 2, 1][turn % 3];
-        list.next_call(&with(xid_bringer(xid), DATA_AT, &[first]), USUAL_ROOM);
-    }
-}
-
-fn drawn_sequence(list: &mut GatewayList) {
-    let start = Record {
-        mac: [2, 0, 0, 0, 0, 0x0e],
-        id: 65_532,
-        xid: 0xffff_ffff,
-    };
-    list.call(start, &ping(&[]), USUAL_ROOM);
-    for _ in 0..100 {
-        let frame = drawn_frame(&mut list.draws);
-        let room = drawn_room(&mut list.draws);
-        list.next_call(&frame, room);
-    }
-    assert!(list.record().id < 65_532);
 }

@@ -2,6 +2,7 @@
 //! spend ids.
 
 use crate::ask_dhcp::{COOKIE, COOKIE_AT, OPTIONS_AT};
+use crate::dhcp_vectors::{END, TYPE};
 use crate::draws::{BROADCAST_IP, GATEWAY_IP, GATEWAY_MAC, GUEST_IP, GUEST_MAC};
 
 pub const ARP: u16 = 0x0806;
@@ -34,6 +35,9 @@ pub const TARGETS: [[u8; 4]; 7] = [
     [0; 4],
 ];
 
+pub const DISCOVER: [u8; 4] = [TYPE, 1, 1, END];
+pub const REQUEST: [u8; 4] = [TYPE, 1, 3, END];
+
 pub fn ethernet(ethertype: u16, body: &[u8]) -> Vec<u8> {
     [&GATEWAY_MAC[..], &GUEST_MAC, &ethertype.to_be_bytes(), body].concat()
 }
@@ -48,6 +52,18 @@ pub fn with(mut frame: Vec<u8>, at: usize, bytes: &[u8]) -> Vec<u8> {
 pub fn of_len(mut frame: Vec<u8>, len: usize) -> Vec<u8> {
     frame.resize(len, 0);
     frame
+}
+
+/// Each byte of the address one more and one less.
+pub fn near(address: [u8; 4]) -> Vec<[u8; 4]> {
+    let changed = |at: usize, change: u8| {
+        let mut near = address;
+        near[at] = near[at].wrapping_add(change);
+        near
+    };
+    (0..4)
+        .flat_map(|at| [changed(at, 1), changed(at, 255)])
+        .collect()
 }
 
 /// A request from the guest for the address of `target`.
