@@ -61,6 +61,13 @@ pub fn judge(line: &[u8]) -> Case {
         TCP_FRAME => came_out(kind, builds(line, TCP_FRAME, 30)),
         CHECKSUM_BY_RULE => came_out(kind, checksum_by_rule(line)),
         WHOLE_FRAME => came_out(kind, frame::sums_right(answers::rest(line, 1))),
+        _ => judge_message(line),
+    }
+}
+
+fn judge_message(line: &[u8]) -> Case {
+    let kind = byte_at(line, 0);
+    match kind % SPOILED {
         OPTION_WALK => came_out(kind, messages::walks(line)),
         CUT_EVERYWHERE => came_out(kind, messages::cut_everywhere(line)),
         DHCP_REPLY => came_out(kind, messages::builds_reply(line)),

@@ -33,6 +33,8 @@ const FRAME_AT: usize = 26;
 
 const VERDICTS: u8 = 8;
 
+const REPLY: u8 = 1;
+
 const WHOSE: u8 = 4;
 
 pub struct Outcome {
@@ -158,7 +160,8 @@ fn is_answer_in(
     let size = u16be(fields, FRAME_SIZE_AT) as usize;
     let image = pieces::lay(answers::rest(fields, FRAME_AT + size), frame, space);
     image.whole
-        && is_verdict(fields, verdict, image.len)
+        && image.len == reply_length(fields)
+        && is_verdict(fields, verdict)
         && holds(out, answers::part(space, 0, image.len))
 }
 
@@ -175,17 +178,24 @@ fn holds(out: &[u8], image: &[u8]) -> bool {
         && answers::is_untouched(answers::rest(out, image.len()))
 }
 
-// Only a reply has an image, and that is as long as it says.
-fn is_verdict(fields: &[u8], verdict: Verdict, image_len: usize) -> bool {
+// Only a reply has bytes, and as many as it says.
+fn reply_length(fields: &[u8]) -> usize {
+    if byte_at(fields, VERDICT_AT) == REPLY {
+        return u32be(fields, VALUE_AT) as usize;
+    }
+    0
+}
+
+fn is_verdict(fields: &[u8], verdict: Verdict) -> bool {
     match verdict {
-        Verdict::Drop => is_number(fields, 0, 0, 0) && image_len == 0,
-        Verdict::Reply(n) => is_number(fields, 1, n, 0) && image_len == n,
-        Verdict::Dns { start, len } => is_number(fields, 2, start, len) && image_len == 0,
-        Verdict::Relay { start, len } => is_number(fields, 3, start, len) && image_len == 0,
-        Verdict::Tcp(len) => is_number(fields, 4, len, 0) && image_len == 0,
-        Verdict::NoRoom(needed) => is_number(fields, 5, needed, 0) && image_len == 0,
-        Verdict::TooLong(len) => is_number(fields, 6, len, 0) && image_len == 0,
-        Verdict::CutType(place) => is_number(fields, 7, place, 0) && image_len == 0,
+        Verdict::Drop => is_number(fields, 0, 0, 0),
+        Verdict::Reply(n) => is_number(fields, REPLY, n, 0),
+        Verdict::Dns { start, len } => is_number(fields, 2, start, len),
+        Verdict::Relay { start, len } => is_number(fields, 3, start, len),
+        Verdict::Tcp(len) => is_number(fields, 4, len, 0),
+        Verdict::NoRoom(needed) => is_number(fields, 5, needed, 0),
+        Verdict::TooLong(len) => is_number(fields, 6, len, 0),
+        Verdict::CutType(place) => is_number(fields, 7, place, 0),
     }
 }
 

@@ -79,11 +79,15 @@ fn measured(size: usize, len: u32) -> Piece {
 
 fn with_piece(laid: Laid, pieces: &[u8], frame: &[u8], out: &mut [u8]) -> Laid {
     let piece = first(pieces);
-    let at = laid.len;
-    let len = piece.len;
     if piece.size == 0 || pieces.len() < piece.size {
-        return broken(at);
+        return broken(laid.len);
     }
+    with_bytes(laid, piece.len, pieces, frame, out)
+}
+
+// The first piece is there whole, and stands for `len` bytes.
+fn with_bytes(laid: Laid, len: usize, pieces: &[u8], frame: &[u8], out: &mut [u8]) -> Laid {
+    let at = laid.len;
     if out.len() < at {
         return broken(at);
     }

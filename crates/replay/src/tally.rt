@@ -86,6 +86,12 @@ fn print_name(row: usize) -> bool {
         SPOILED_ROW => io::write_all(1, b"spoiled line, found wrong: "),
         5 => io::write_all(1, b"make_udp_payload: "),
         6 => io::write_all(1, b"make_tcp_frame: "),
+        _ => print_later_name(row),
+    }
+}
+
+fn print_later_name(row: usize) -> bool {
+    match row {
         7 => io::write_all(1, b"checksum of bytes made by rule: "),
         8 => io::write_all(1, b"whole frame from outside: "),
         9 => io::write_all(1, b"option walk: "),
