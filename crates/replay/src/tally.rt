@@ -1,4 +1,5 @@
 // How many cases of each kind agreed and how many did not.
+use crate::answers;
 
 // A row for each kind of line; no line has the kinds 0 and 4. Behind them one for each verdict of a
 // gateway call, and then one for each way in which its answer is the Rust's or document 01's.
@@ -77,51 +78,66 @@ fn print_count(n: u64, after: &[u8]) {
     io::write_all(1, after);
 }
 
+// The names of the rows, in their order, each with its line's end.
 fn print_name(row: usize) -> bool {
-    match row {
-        UNREAD_ROW => io::write_all(1, b"line not understood: "),
-        1 => io::write_all(1, b"checksum: "),
-        2 => io::write_all(1, b"checksum in two pieces: "),
-        3 => io::write_all(1, b"make_ip_frame, and in place: "),
-        SPOILED_ROW => io::write_all(1, b"spoiled line, found wrong: "),
-        5 => io::write_all(1, b"make_udp_payload: "),
-        6 => io::write_all(1, b"make_tcp_frame: "),
-        _ => print_later_name(row),
-    }
+    let names = b"line not understood\n\
+          checksum\n\
+          checksum in two pieces\n\
+          make_ip_frame, and in place\n\
+          spoiled line, found wrong\n\
+          make_udp_payload\n\
+          make_tcp_frame\n\
+          checksum of bytes made by rule\n\
+          whole frame from outside\n\
+          option walk\n\
+          message cut at every place\n\
+          DHCP reply\n\
+          types of replies\n\
+          gateway, drop\n\
+          gateway, reply\n\
+          gateway, DNS\n\
+          gateway, relay\n\
+          gateway, TCP handoff\n\
+          gateway, no room\n\
+          gateway, too long\n\
+          gateway, cut message type\n\
+          of the gateway's, the Rust's own answers\n\
+          of the gateway's, document 01's, where the Rust panics\n\
+          of the gateway's, document 01's, where the Rust cuts a length\n\
+          of the gateway's, document 01's, where the Rust knows no buffer\n";
+    io::write_all(1, name_of(names, row));
+    io::write_all(1, b": ")
 }
 
-fn print_later_name(row: usize) -> bool {
-    match row {
-        7 => io::write_all(1, b"checksum of bytes made by rule: "),
-        8 => io::write_all(1, b"whole frame from outside: "),
-        9 => io::write_all(1, b"option walk: "),
-        10 => io::write_all(1, b"message cut at every place: "),
-        11 => io::write_all(1, b"DHCP reply: "),
-        12 => io::write_all(1, b"types of replies: "),
-        _ => print_gateway_name(row),
-    }
+fn name_of(names: &[u8], row: usize) -> &[u8] {
+    let start = behind_lines(names, row);
+    let rest = answers::rest(names, start);
+    answers::part(rest, 0, line_length(rest))
 }
 
-fn print_gateway_name(row: usize) -> bool {
-    match row {
-        13 => io::write_all(1, b"gateway, drop: "),
-        14 => io::write_all(1, b"gateway, reply: "),
-        15 => io::write_all(1, b"gateway, DNS: "),
-        16 => io::write_all(1, b"gateway, relay: "),
-        17 => io::write_all(1, b"gateway, TCP handoff: "),
-        18 => io::write_all(1, b"gateway, no room: "),
-        19 => io::write_all(1, b"gateway, too long: "),
-        20 => io::write_all(1, b"gateway, cut message type: "),
-        _ => print_whose(row),
+// Where the text goes on behind its first `count` lines.
+fn behind_lines(text: &[u8], count: usize) -> usize {
+    let mut left = count;
+    let mut at = 0;
+    while at < text.len() {
+        if left == 0 {
+            return at;
+        }
+        if text[at] == b'\n' {
+            left -= 1;
+        }
+        at += 1;
     }
+    at
 }
 
-fn print_whose(row: usize) -> bool {
-    io::write_all(1, b"of the gateway's, ");
-    match row {
-        21 => io::write_all(1, b"the Rust's own answers: "),
-        22 => io::write_all(1, b"document 01's, where the Rust panics: "),
-        23 => io::write_all(1, b"document 01's, where the Rust cuts a length: "),
-        _ => io::write_all(1, b"document 01's, where the Rust knows no buffer: "),
+fn line_length(text: &[u8]) -> usize {
+    let mut at = 0;
+    while at < text.len() {
+        if text[at] == b'\n' {
+            return at;
+        }
+        at += 1;
     }
+    at
 }
