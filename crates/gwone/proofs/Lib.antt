@@ -1,0 +1,4 @@
+pub mod Adding
+pub mod Decimal
+pub mod Called
+pub mod Prints

@@ -1,0 +1,69 @@
+-- `answer::add_printed` adds one text for an input that is too long, and else the text of what the gateway promises.
+use native.Mathlib.Omega.{arith}
+use borrow.Author.Tests.{lt-ltb, le-ltb}
+use Rattle.gwone.specs.Printed.{printed}
+use Rattle.gwone.proofs.Adding.{reworded}
+use Rattle.gwone.proofs.Called.{call-text, counted}
+use borrow.Author.Needs.{needs}
+use Rattle.gwone.proofs.answer.add_printed.Statement.{statement}
+use Rattle.gwone.proofs.answer.add_printed.Tie as tie
+
+slice-aggregate-add : tie.Need-slice-aggregate-add
+slice-aggregate-add c = search needs
+
+add-requires : tie.Need-add-requires
+add-requires c κs = search needs
+
+same-length : tie.Need-same-length
+same-length c = search needs
+
+returns : tie.Need-returns
+unfolding printed
+returns c = (rw (lt-ltb _ _ (c .before .before .before .before .before .if1 .taken)) (c .before .before .add .ensures), counted _ _ (omega arith))
+
+reply-space-requires : tie.Need-reply-space-requires
+reply-space-requires c κs = search needs
+
+new-requires : tie.Need-new-requires
+new-requires c κs = search needs
+
+slice-aggregate-handle : tie.Need-slice-aggregate-handle
+slice-aggregate-handle c = search needs
+
+handle-requires : tie.Need-handle-requires
+handle-requires c κs = search needs
+
+slice-aggregate-add-answer : tie.Need-slice-aggregate-add-answer
+slice-aggregate-add-answer c = search needs
+
+add-answer-requires : tie.Need-add-answer-requires
+add-answer-requires c κs = search needs
+
+same-length-2 : tie.Need-same-length-2
+same-length-2 c = search needs
+
+returns-2 : tie.Need-returns-2
+unfolding printed
+returns-2 c =
+    let at-handle = c .before .before .before .before .before .before in
+    let at-new = at-handle .before .before in
+    let at-space = at-new .before in
+    let right = call-text _ _ _ _ _ (at-new .new .ensures) (at-space .reply-space .ensures) (at-handle .handle .ensures) in
+    (rw (le-ltb _ _ (at-space .before .if1 .left)) (reworded right (c .before .before .add-answer .ensures .0)), counted _ _ (omega arith))
+
+pub add-printed-spec : {M : Type 1} → statement M
+add-printed-spec =
+    tie.close
+    (tie.spec
+    slice-aggregate-add
+    add-requires
+    same-length
+    returns
+    reply-space-requires
+    new-requires
+    slice-aggregate-handle
+    handle-requires
+    slice-aggregate-add-answer
+    add-answer-requires
+    same-length-2
+    returns-2)
