@@ -1,8 +1,8 @@
--- The marked cases of document 01 ("Bytes to check"), in one table, and what it means that a row holds. The replies' bytes are the published Rust's.
-use Prim.Native.Nat.{ℕ, _+_}
+-- The marked cases of document 01 ("Bytes to check"), in one table, and what it means that a row holds; behind them the cases that are not marked. The replies' bytes are the published Rust's.
+use Prim.Native.Nat.{ℕ, _+_, _-_}
 use mathlib.Core.Path.{_≡_}
 use mathlib.Core.List.{List, [], _∷_, _++_}
-use lib.ListN.{length, replicate}
+use lib.ListN.{length, take, replicate}
 use Rattle.fields.specs.Bytes.{be16}
 use Rattle.frames.specs.Answer.{Outcome, fresh}
 use Rattle.frames.specs.Network.{network}
@@ -96,3 +96,31 @@ marked =
     ∷ call (message (0x35 ∷ 0x00 ∷ 0x35 ∷ 0x01 ∷ 0x03 ∷ [])) (fresh mac) 1514 (1 ∷ 342 ∷ []) (dhcpReply 5) (with 2 0x11223344)  -- D4: an acknowledgement
     ∷ call (message (0x00 ∷ 0x00 ∷ 0x35 ∷ 0x05 ∷ 0x01 ∷ [])) (fresh mac) 2048 (1 ∷ 342 ∷ []) (dhcpReply 2) (with 2 0x11223344)  -- D5: an offer
     ∷ []
+
+-- P1's ping with its payload as long as this, its last bytes 0: its header states a total length of 28, which is not looked at
+abbrev pub pingOf : (len : ℕ) → List ℕ
+pingOf len = ping ++ replicate (len - 8) 0
+
+-- a UDP frame of 34 bytes whose header length is 60
+abbrev pub headerOf60 : List ℕ
+headerOf60 =
+    (0x52 ∷ 0x54 ∷ 0x00 ∷ 0x00 ∷ 0x00 ∷ 0x01 ∷ 0x52 ∷ 0x54 ∷ 0x00 ∷ 0x12 ∷ 0x34 ∷ 0x56 ∷ 0x08 ∷ 0x00 ∷ [])
+    ++ (0x4f ∷ 0x00 ∷ 0x00 ∷ 0x14 ∷ 0x00 ∷ 0x01 ∷ 0x00 ∷ 0x00 ∷ 0x40 ∷ 0x11 ∷ 0x00 ∷ 0x00 ∷ 0x0a ∷ 0x00 ∷ 0x02 ∷ 0x0f ∷ 0x0a ∷ 0x00 ∷ 0x02 ∷ 0x02 ∷ [])
+
+-- the verdict's numbers at 65,549 bytes of room
+abbrev pub numbersOf : (frame : List ℕ) → List ℕ
+numbersOf frame = outcome network (fresh mac) frame 65549 .writing .numbers
+
+-- The cases of "Bytes to check" that are not marked.
+abbrev pub unmarked : List Case
+unmarked =
+    call (message (0x35 ∷ 0x00 ∷ [])) (fresh mac) 342 (0 ∷ []) [] (with 1 0x11223344)  -- D6: a drop
+    ∷ call (message (0xff ∷ 0x35 ∷ 0x01 ∷ 0x01 ∷ [])) (fresh mac) 342 (0 ∷ []) [] (with 1 0x11223344)  -- D7: a drop
+    ∷ call (take 41 arpRequest) (fresh mac) 2048 (0 ∷ []) [] (with 1 0)  -- "41-byte ARP drop"
+    ∷ call headerOf60 (fresh mac) 2048 (0 ∷ []) [] (with 1 0)  -- "Header length 60 in a 34-byte UDP frame drop"
+    ∷ call (message (0x35 ∷ 0x01 ∷ 0x01 ∷ 0xff ∷ [])) (fresh mac) 341 (5 ∷ 342 ∷ []) [] (with 1 0)  -- "DHCP room 341 gives 5, needed 342"
+    ∷ []
+
+-- "Ping payload 65,515 replies 65,549 bytes; 65,516 gives 6": the verdict's numbers, and the record's id afterwards
+abbrev pub longPing : Type 0
+longPing = (numbersOf (pingOf 65515) ≡ 1 ∷ 65549 ∷ []) × (numbersOf (pingOf 65516) ≡ 6 ∷ 65516 ∷ [])
