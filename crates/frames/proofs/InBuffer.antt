@@ -1,4 +1,4 @@
--- What the four calls leave in the buffer where they answer 1 with n: the first n bytes are the frame or datagram, of length n, and the others are as they were.
+-- What the three calls leave in the buffer where they answer 1 with n: the first n bytes are the frame or datagram, of length n, and the others are as they were.
 use Prim.Native.Nat.{ℕ, _+_, _≤_}
 use mathlib.Core.Path.{_≡_, ap, sym, _∙_}
 use mathlib.Core.List.{List, [], _∷_}
@@ -8,18 +8,15 @@ use lib.Seq.{take-at, drop-at}
 use Rattle.fields.specs.Bytes.{part}
 use Rattle.sums.specs.Rfc1071.{SumsRight}
 use Rattle.frames.specs.Answer.{paper, Wrote, Meets, building, spending}
-use Rattle.frames.specs.Builders.{makeIpFrame, makeIpFrameInPlace, makeUdpPayload, makeTcpFrame, dataLimit}
+use Rattle.frames.specs.Builders.{makeIpFrame, makeIpFrameInPlace, makeUdpPayload}
 use Rattle.frames.specs.Rfc768.{datagram}
 use Rattle.frames.specs.Rfc791.{ipFrame}
-use Rattle.frames.specs.Rfc9293.{options, covered, tcpFrame}
 use Rattle.frames.specs.declared.answer.Guest.{Guest}
 use Rattle.frames.specs.declared.answer.Answer.{Answer}
 use Rattle.frames.specs.declared.answer.Verdict.{Verdict}
-use Rattle.frames.specs.declared.tcp.Endpoints.{Endpoints}
 use Rattle.frames.proofs.Changes.{on-one, on-five}
 use Rattle.frames.proofs.Lengths.{length-ipFrame, length-datagram}
-use Rattle.frames.proofs.TcpLaws.{length-tcpFrame}
-use Rattle.frames.proofs.SumsRight.{frame-header-sums-right, frame-segment-sums-right}
+use Rattle.frames.proofs.SumsRight.{frame-header-sums-right}
 
 pub record InBuffer (built before after : List ℕ) (n : ℕ) : Type 0 where
   pub long : n ≡ length built
@@ -61,18 +58,6 @@ module _ (guest : Guest) (before after : List ℕ) (a : Answer) (n : ℕ) (one :
         let within : length (part before 34 len) ≡ len = simp (length-take, length-drop) (omega arith) in
         length-ipFrame source target four four′ mac (part before 34 len) (guest .id) protocol six ∙ ap (λ (k : ℕ). 34 + k) within)
         (m .wrote) one
-
-  module _ (ends : Endpoints) (seq ack flags : ℕ) (d : List ℕ) (six : length (ends .«dst_mac») ≡ 6) (four : length (ends .«src_ip») ≡ 4)
-      (four′ : length (ends .«dst_ip») ≡ 4) (m : Meets (makeTcpFrame guest ends seq ack flags d (length before)) before after a) where
-    pub tcp-frame-in-buffer : InBuffer (tcpFrame (guest .id) ends seq ack flags d) before after n
-    unfolding spending
-    tcp-frame-in-buffer =
-        in-buffer (dataLimit flags) (length d) (54 + length (options flags) + length d) (length before) (tcpFrame (guest .id) ends seq ack flags d) before after (a .verdict) n
-        (λ h. length-tcpFrame (guest .id) ends seq ack flags d six four four′) (m .wrote) one
-
-    -- its segment, as it stands in the buffer, with the pseudo-header
-    pub segment-in-buffer-sums-right : SumsRight (covered (ends .«src_ip») (ends .«dst_ip») (drop 34 (take n after)))
-    segment-in-buffer-sums-right = rw (tcp-frame-in-buffer .front) (frame-segment-sums-right (guest .id) ends seq ack flags d six four four′)
 
 pub datagram-in-buffer : (before after : List ℕ) (v : Verdict) (n source target : ℕ) (d : List ℕ) → paper v ≡ 1 ∷ n ∷ []
     → Wrote (makeUdpPayload source target d (length before)) before after v → InBuffer (datagram source target d) before after n

@@ -2,7 +2,6 @@ pub mod Lists
 pub mod Built
 pub mod Lengths
 pub mod Framed
-pub mod TcpLaws
 pub mod OneAnswer
 pub mod Changes
 pub mod SumsRight

@@ -6,12 +6,11 @@ use lib.ListN.{length, getD}
 use lib.Dec.{eqb}
 use Rattle.frames.specs.Pick.{pick}
 use Rattle.frames.specs.Answer.{paper, Writing, Outcome, Wrote, Meets}
-use Rattle.frames.specs.Builders.{makeIpFrame, makeIpFrameInPlace, makeUdpPayload, makeTcpFrame}
+use Rattle.frames.specs.Builders.{makeIpFrame, makeIpFrameInPlace, makeUdpPayload}
 use Rattle.frames.specs.declared.answer.Guest.{Guest}
 use Rattle.frames.specs.declared.answer.Answer.{Answer}
 use Rattle.frames.specs.declared.answer.Verdict.{Verdict}
 use Rattle.frames.specs.declared.answer.Verdict.the-variants.{Drop, Reply, Dns, Relay, Tcp, NoRoom, TooLong, CutType}
-use Rattle.frames.specs.declared.tcp.Endpoints.{Endpoints}
 
 -- the verdict with these numbers
 verdictOf : List ℕ → Verdict
@@ -48,7 +47,7 @@ one-outcome o before after after′ a a′ p q =
     let guest = p .guest ∙ sym (q .guest) in
     (λ i. record { verdict = same .0 i; guest = guest i }, same .1)
 
--- The four calls that build, by their own contracts.
+-- The three calls that build, by their own contracts.
 module _ (before after after′ : List ℕ) where
   module _ (guest : Guest) (a a′ : Answer) where
     pub make-ip-frame-answers-once : (mac source target : List ℕ) (protocol : ℕ) (payload : List ℕ)
@@ -60,11 +59,6 @@ module _ (before after after′ : List ℕ) where
         → Meets (makeIpFrameInPlace guest mac source target protocol len before) before after a
         → Meets (makeIpFrameInPlace guest mac source target protocol len before) before after′ a′ → (a ≡ a′) × (after ≡ after′)
     make-ip-frame-in-place-answers-once mac source target protocol len = one-outcome _ before after after′ a a′
-
-    pub make-tcp-frame-answers-once : (ends : Endpoints) (seq ack flags : ℕ) (body : List ℕ)
-        → Meets (makeTcpFrame guest ends seq ack flags body (length before)) before after a
-        → Meets (makeTcpFrame guest ends seq ack flags body (length before)) before after′ a′ → (a ≡ a′) × (after ≡ after′)
-    make-tcp-frame-answers-once ends seq ack flags body = one-outcome _ before after after′ a a′
 
   pub make-udp-payload-answers-once : (v v′ : Verdict) (source target : ℕ) (body : List ℕ)
       → Wrote (makeUdpPayload source target body (length before)) before after v

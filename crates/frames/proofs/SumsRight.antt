@@ -1,20 +1,16 @@
 -- What is built sums right. A checksum field holding c adds c to the sum of the words, and 65,535 less the fold of a sum, added to it, folds to 65,535.
-use Prim.Native.Nat.{ℕ, zero, suc, _+_, _-_, _/_, _%_}
-use mathlib.Core.Path.{_≡_, refl, ap, _∙_}
-use mathlib.Core.List.{List, _++_, append-assoc}
+use Prim.Native.Nat.{ℕ, zero, suc, _+_, _-_}
+use mathlib.Core.Path.{_≡_, ap, _∙_}
+use mathlib.Core.List.{List}
 use native.Mathlib.Omega.{arith}
-use lib.ListN.{length, drop, length-append}
+use lib.ListN.{length}
 use lib.Seq.{take-at}
 use Rattle.fields.specs.Bytes.{part}
 use Rattle.sums.specs.Rfc1071.{words, sum, total, fold, checksum, SumsRight}
-use Rattle.frames.specs.Rfc768.{pseudoHeader}
 use Rattle.frames.specs.Rfc791.{headerWith, header, ipFrame}
-use Rattle.frames.specs.Rfc9293.{options, segmentHeader, summedHeader, segment, covered, tcpFrame}
-use Rattle.frames.specs.declared.tcp.Endpoints.{Endpoints}
 use Rattle.frames.proofs.Lists.{all-bytes}
-use Rattle.sums.proofs.Laws.{fold-zero, fold-pos, total-append}
-use Rattle.frames.proofs.Lengths.{length-header, drop-14, drop-34}
-use Rattle.frames.proofs.TcpLaws.{options-even}
+use Rattle.sums.proofs.Laws.{fold-zero, fold-pos}
+use Rattle.frames.proofs.Lengths.{length-header, drop-14}
 
 fold-checksum : (s : ℕ) → fold (s + (65535 - fold s)) ≡ 65535
 fold-checksum zero = rw fold-zero (fold-pos 65535 (omega arith))
@@ -46,66 +42,3 @@ module _ (source target : List ℕ) (four : length source ≡ 4) (four′ : leng
         take-at (header (20 + length payload) id protocol source target) payload 20 (length-header source target four four′ _ id protocol),
       )
       (header-sums-right (20 + length payload) id protocol)
-
-total-segmentHeader : (c source target seq ack flags : ℕ) → total (segmentHeader c source target seq ack flags) ≡ total (segmentHeader 0 source target seq ack flags) + c
-unfolding total words sum segmentHeader
-total-segmentHeader c source target seq ack flags = omega arith
-
-length-segmentHeader : (c source target seq ack flags : ℕ) → length (segmentHeader c source target seq ack flags) ≡ 20
-unfolding segmentHeader
-length-segmentHeader c source target seq ack flags = refl
-
-module _ (from to : List ℕ) (four : length from ≡ 4) (four′ : length to ≡ 4) where
-  length-pseudoHeader : (protocol n : ℕ) → length (pseudoHeader from to protocol n) ≡ 12
-  unfolding pseudoHeader
-  length-pseudoHeader protocol n = simp length-append (omega arith)
-
-  total-covered : (h o b : List ℕ) → length h ≡ 20 → length o % 2 ≡ 0
-      → total (covered from to (h ++ o ++ b)) ≡ total (pseudoHeader from to 6 (20 + length o + length b)) + total h + total o + total b
-  unfolding covered
-  total-covered h o b lh lo =
-      let n : length (h ++ o ++ b) ≡ 20 + length o + length b = simp length-append (omega arith) in
-      let p = pseudoHeader from to 6 (20 + length o + length b) in
-      rw (
-        n,
-        total-append 6 p (h ++ o ++ b) (length-pseudoHeader 6 (20 + length o + length b)),
-        append-assoc h o b,
-        total-append 10 h (o ++ b) lh,
-        total-append (length o / 2) o b (omega arith),
-      )
-      (omega arith)
-
--- RFC 9293, section 3.1: the segment's words with those of its pseudo-header fold to 65,535, with options and without
-pub segment-sums-right : (ends : Endpoints) (seq ack flags : ℕ) (body : List ℕ) → length (ends .«src_ip») ≡ 4 → length (ends .«dst_ip») ≡ 4
-    → SumsRight (covered (ends .«src_ip») (ends .«dst_ip») (segment ends seq ack flags body))
-unfolding segment summedHeader
-segment-sums-right ends seq ack flags body four four′ =
-    let from = ends .«src_ip» in
-    let to = ends .«dst_ip» in
-    let h : ℕ → List ℕ = λ c. segmentHeader c (ends .«src_port») (ends .«dst_port») seq ack flags in
-    let blank = covered from to (h 0 ++ options flags ++ body) in
-    let c = checksum blank in
-    sums-right _ blank
-    (omega (
-      arith,
-      total-covered from to four four′ (h c) (options flags) body (length-segmentHeader c _ _ seq ack flags) (options-even flags),
-      total-covered from to four four′ (h 0) (options flags) body (length-segmentHeader 0 _ _ seq ack flags) (options-even flags),
-      total-segmentHeader c (ends .«src_port») (ends .«dst_port») seq ack flags,
-    ))
-
--- the segment of a frame, for every data
-pub frame-segment-sums-right : (id : ℕ) (ends : Endpoints) (seq ack flags : ℕ) (body : List ℕ)
-    → length (ends .«dst_mac») ≡ 6 → length (ends .«src_ip») ≡ 4 → length (ends .«dst_ip») ≡ 4
-    → SumsRight (covered (ends .«src_ip») (ends .«dst_ip») (drop 34 (tcpFrame id ends seq ack flags body)))
-unfolding tcpFrame
-frame-segment-sums-right id ends seq ack flags body six four four′ =
-    rw (drop-34 (ends .«dst_mac») (ends .«src_ip») (ends .«dst_ip») (segment ends seq ack flags body) id 6 six four four′)
-    (segment-sums-right ends seq ack flags body four four′)
-
--- the IPv4 header of a TCP frame
-pub tcp-frame-header-sums-right : (id : ℕ) (ends : Endpoints) (seq ack flags : ℕ) (body : List ℕ)
-    → length (ends .«dst_mac») ≡ 6 → length (ends .«src_ip») ≡ 4 → length (ends .«dst_ip») ≡ 4
-    → SumsRight (part (tcpFrame id ends seq ack flags body) 14 20)
-unfolding tcpFrame
-tcp-frame-header-sums-right id ends seq ack flags body six four four′ =
-    frame-header-sums-right (ends .«src_ip») (ends .«dst_ip») four four′ (ends .«dst_mac») (segment ends seq ack flags body) id 6 six

@@ -6,10 +6,7 @@ use Rattle.frames.specs.Answer.{Writing, Outcome, building, spending}
 use Rattle.fields.specs.Bytes.{part}
 use Rattle.frames.specs.Rfc768.{datagram}
 use Rattle.frames.specs.Rfc791.{ipFrame}
-use Rattle.frames.specs.Pick.{pick}
-use Rattle.frames.specs.Rfc9293.{synSet, options, tcpFrame}
 use Rattle.frames.specs.declared.answer.Guest.{Guest}
-use Rattle.frames.specs.declared.tcp.Endpoints.{Endpoints}
 
 -- IPv4: "Payload over 65,515: 6"
 abbrev pub makeIpFrame : Guest → (mac source target : List ℕ) (protocol : ℕ) (payload : List ℕ) (room : ℕ) → Outcome
@@ -24,11 +21,3 @@ makeIpFrameInPlace guest mac source target protocol len buffer =
 -- UDP: "Data over 65,527: 6"
 abbrev pub makeUdpPayload : (source target : ℕ) (body : List ℕ) (room : ℕ) → Writing
 makeUdpPayload source target body room = building 65527 (length body) (8 + length body) room (datagram source target body)
-
--- TCP: "Data over 65,495, or 65,487 with options: 6"
-unfoldable pub dataLimit : (flags : ℕ) → ℕ
-dataLimit flags = pick (synSet flags) 65487 65495
-
-abbrev pub makeTcpFrame : Guest → Endpoints → (seq ack flags : ℕ) (body : List ℕ) (room : ℕ) → Outcome
-makeTcpFrame guest ends seq ack flags body room =
-    spending guest (dataLimit flags) (length body) (54 + length (options flags) + length body) room (tcpFrame (guest .id) ends seq ack flags body)

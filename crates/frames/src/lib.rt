@@ -1,9 +1,8 @@
-// Ethernet, IPv4, UDP and TCP on the wire: the record of a guest, the answers of a call, the three
-// builders and the copy into a lent buffer. No public function relies on checks by its caller.
+// Ethernet, IPv4 and UDP on the wire: the record of a guest, the answers of a call, the builders and
+// the copy into a lent buffer. No public function relies on checks by its caller.
 mod answer;
 mod ipv4;
 mod network;
-mod tcp;
 mod udp;
 mod write;
 
@@ -14,8 +13,6 @@ pub use ipv4::make_ip_frame;
 pub use ipv4::make_ip_frame_in_place;
 pub use network::GATEWAY_MAC;
 pub use network::Network;
-pub use tcp::Endpoints;
-pub use tcp::make_tcp_frame;
 pub use udp::make_udp_payload;
 pub use udp::pseudo_header;
 pub use write::put;

@@ -11,8 +11,8 @@ use fields::mac_at;
 use fields::u16be;
 use fields::u32be;
 use frames::Answer;
-use frames::Endpoints;
 use frames::Guest;
+use tcp::Endpoints;
 
 // How a line came out, and the row of the tally that counts it.
 pub struct Case {
@@ -229,7 +229,7 @@ fn tcp_frame(line: &[u8], payload: &[u8], out: &mut [u8]) -> Answer {
         dst_ip: address_at(line, 15),
         dst_port: u16be(line, 19),
     };
-    frames::make_tcp_frame(
+    tcp::make_tcp_frame(
         guest(line),
         ends,
         u32be(line, 21),

@@ -1,6 +1,6 @@
-// Replays stored vectors: calls of `sums`, `frames`, `dhcp` and `slirp` with the answers that others
-// gave, one to a line of standard input (oracle/README.md has the form). It prints how many of each
-// kind ran and agreed.
+// Replays stored vectors: calls of `sums`, `frames`, `tcp`, `dhcp` and `slirp` with the answers that
+// others gave, one to a line of standard input (oracle/README.md has the form). It prints how many of
+// each kind ran and agreed.
 mod answers;
 mod cases;
 mod frame;

@@ -1,10 +1,10 @@
 -- `tcp::options_length` meets its contract: the mask takes the SYN bit out, and that decides.
 use mathlib.Core.Path.{refl}
 use lib.Dec.{lit≤}
-use Rattle.frames.specs.Rfc9293.{options}
-use Rattle.frames.proofs.TcpLaws.{with-syn, without-syn}
-use Rattle.frames.proofs.tcp.options_length.Statement.{statement}
-use Rattle.frames.proofs.tcp.options_length.Tie as tie
+use Rattle.tcp.specs.Rfc9293.{options}
+use Rattle.tcp.proofs.TcpLaws.{with-syn, without-syn}
+use Rattle.tcp.proofs.options_length.Statement.{statement}
+use Rattle.tcp.proofs.options_length.Tie as tie
 
 returns : tie.Need-returns
 unfolding options

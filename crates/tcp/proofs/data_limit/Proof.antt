@@ -1,11 +1,11 @@
 -- `tcp::data_limit` meets its contract: the mask takes the SYN bit out, and that decides.
 use mathlib.Core.Path.{refl}
 use lib.Dec.{lit≤}
-use Rattle.frames.specs.Builders.{dataLimit}
-use Rattle.frames.specs.Rfc9293.{options}
-use Rattle.frames.proofs.TcpLaws.{with-syn, without-syn}
-use Rattle.frames.proofs.tcp.data_limit.Statement.{statement}
-use Rattle.frames.proofs.tcp.data_limit.Tie as tie
+use Rattle.tcp.specs.Builders.{dataLimit}
+use Rattle.tcp.specs.Rfc9293.{options}
+use Rattle.tcp.proofs.TcpLaws.{with-syn, without-syn}
+use Rattle.tcp.proofs.data_limit.Statement.{statement}
+use Rattle.tcp.proofs.data_limit.Tie as tie
 
 returns : tie.Need-returns
 unfolding options dataLimit

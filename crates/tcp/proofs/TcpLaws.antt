@@ -7,11 +7,11 @@ use native.Mathlib.Omega.{arith}
 use borrow.Author.Tests.{eq-eqb, ne-eqb}
 use lib.ListN.{length, take, length-append}
 use lib.Bits.{bitAnd, and-high}
 use Rattle.frames.specs.Pick.{pick}
-use Rattle.frames.specs.Rfc9293.{synSet, options, synOptions, segment, summedHeader, segmentHeader, tcpFrame}
+use Rattle.tcp.specs.Rfc9293.{synSet, options, synOptions, segment, summedHeader, segmentHeader, tcpFrame}
 use Rattle.frames.proofs.Lengths.{length-ipFrame}
-use Rattle.frames.specs.Builders.{dataLimit}
-use Rattle.frames.specs.declared.tcp.Endpoints.{Endpoints}
+use Rattle.tcp.specs.Builders.{dataLimit}
+use Rattle.tcp.specs.declared.Endpoints.{Endpoints}
 
 -- the mask 0x02 takes the SYN bit out
 pub syn-mask : (flags : ℕ) → bitAnd flags 2 ≡ flags / 2 % 2 * 2

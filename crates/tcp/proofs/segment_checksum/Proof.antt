@@ -6,11 +6,11 @@ use native.Mathlib.Omega.{arith}
 use borrow.Author.Needs.{needs}
 use lib.ListN.{length, length-append}
 use Rattle.sums.specs.Rfc1071.{total, fold, checksum}
 use Rattle.frames.specs.Rfc768.{pseudoHeader}
-use Rattle.frames.specs.Rfc9293.{covered}
+use Rattle.tcp.specs.Rfc9293.{covered}
 use Rattle.sums.proofs.Laws.{checksum-pieces}
-use Rattle.frames.proofs.tcp.segment_checksum.Statement.{statement}
-use Rattle.frames.proofs.tcp.segment_checksum.Tie as tie
+use Rattle.tcp.proofs.segment_checksum.Statement.{statement}
+use Rattle.tcp.proofs.segment_checksum.Tie as tie
 
 add-len : tie.Need-add-len
 add-len c = search needs

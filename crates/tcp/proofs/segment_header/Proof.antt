@@ -4,9 +4,9 @@ use mathlib.Core.Path.{_≡_}
 use native.Mathlib.Omega.{arith}
 use borrow.Author.Needs.{needs}
 use lib.ListN.{length}
-use Rattle.frames.specs.Rfc9293.{options, segmentHeader}
-use Rattle.frames.proofs.tcp.segment_header.Statement.{statement}
-use Rattle.frames.proofs.tcp.segment_header.Tie as tie
+use Rattle.tcp.specs.Rfc9293.{options, segmentHeader}
+use Rattle.tcp.proofs.segment_header.Statement.{statement}
+use Rattle.tcp.proofs.segment_header.Tie as tie
 
 options-length-requires : tie.Need-options-length-requires
 options-length-requires c κs = search needs

@@ -6,10 +6,10 @@ use native.Mathlib.Omega.{arith}
 use borrow.Author.Needs.{needs}
 use lib.ListN.{length}
 use Rattle.sums.specs.Rfc1071.{checksum}
-use Rattle.frames.specs.Rfc9293.{covered, segmentHeader, summedHeader}
-use Rattle.frames.proofs.TcpLaws.{options-even, limit-holds}
-use Rattle.frames.proofs.tcp.summed_header.Statement.{statement}
-use Rattle.frames.proofs.tcp.summed_header.Tie as tie
+use Rattle.tcp.specs.Rfc9293.{covered, segmentHeader, summedHeader}
+use Rattle.tcp.proofs.TcpLaws.{options-even, limit-holds}
+use Rattle.tcp.proofs.summed_header.Statement.{statement}
+use Rattle.tcp.proofs.summed_header.Tie as tie
 
 segment-header-requires : tie.Need-segment-header-requires
 segment-header-requires c κs = search needs

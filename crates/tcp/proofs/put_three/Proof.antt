@@ -1,13 +1,13 @@
--- `write::put_three` meets its contract: pieces put one behind the other are one piece.
+-- `tcp::put_three` meets its contract: pieces put one behind the other are one piece.
 use Prim.Native.Nat.{_+_}
 use mathlib.Core.Path.{ap, _∙_}
 use native.Mathlib.Omega.{arith}
 use borrow.Author.Needs.{needs}
 use lib.ListN.{length}
 use Rattle.frames.specs.Buffer.{put}
 use Rattle.frames.proofs.Lists.{fits, put-put, put-behind}
-use Rattle.frames.proofs.write.put_three.Statement.{statement}
-use Rattle.frames.proofs.write.put_three.Tie as tie
+use Rattle.tcp.proofs.put_three.Statement.{statement}
+use Rattle.tcp.proofs.put_three.Tie as tie
 
 put-requires : tie.Need-put-requires
 put-requires c κs = search needs

@@ -4,12 +4,12 @@ use mathlib.Core.List.{List, [], _∷_, _++_}
 use lib.ListN.{length}
 use lib.Dec.{eqb}
 use mathlib.Core.Bool.{Bool}
 use Rattle.frames.specs.Pick.{pick}
 use Rattle.fields.specs.Bytes.{be16, be32}
 use Rattle.sums.specs.Rfc1071.{checksum}
 use Rattle.frames.specs.Rfc768.{pseudoHeader}
 use Rattle.frames.specs.Rfc791.{ipFrame}
-use Rattle.frames.specs.declared.tcp.Endpoints.{Endpoints}
+use Rattle.tcp.specs.declared.Endpoints.{Endpoints}
 
 -- bit 0x02 of the flags: the control bit SYN
 abbrev pub synSet : (flags : ℕ) → Bool

@@ -1,20 +1,21 @@
-// TCP segments in their frames.
+// TCP segments in their frames: who speaks to whom, and the builder. No public function relies on
+// checks by its caller.
 ghost use mathlib.Core.Path.{_≡_};
 ghost use mathlib.Core.List.{_++_};
 ghost use Prim.Native.Nat.{_+_, _%_, _≤_};
 ghost use lib.ListN.{length};
 ghost use Rattle.frames.specs.Answer.{Meets};
 ghost use Rattle.frames.specs.Buffer.{put as Buffer·put};
-ghost use Rattle.frames.specs.Builders.{dataLimit, makeTcpFrame};
+ghost use Rattle.tcp.specs.Builders.{dataLimit, makeTcpFrame};
 ghost use Rattle.sums.specs.Rfc1071.{checksum as Rfc1071·checksum};
-ghost use Rattle.frames.specs.Rfc9293.{covered, segment, segmentHeader, summedHeader, options as Rfc9293·options};
-use crate::answer::Answer;
-use crate::answer::Guest;
-use crate::answer::Verdict;
-use crate::ipv4::make_ip_frame_in_place;
-use crate::udp::pseudo_header;
-use crate::write::put_three;
+ghost use Rattle.tcp.specs.Rfc9293.{covered, segment, segmentHeader, summedHeader, options as Rfc9293·options};
 use fields::be32;
+use frames::Answer;
+use frames::Guest;
+use frames::Verdict;
+use frames::make_ip_frame_in_place;
+use frames::pseudo_header;
+use frames::put;
 use sums::sum;
 
 // Who speaks to whom; `dst_mac` is the guest's.
@@ -57,11 +58,11 @@ pub fn make_tcp_frame(
     let len = data.len();
     let option_len = options_length(flags);
     if data_limit(flags) < len {
-        return guest.refused(Verdict::TooLong(len));
+        return refused(guest, Verdict::TooLong(len));
     }
     let segment_len = HEADER + option_len + len;
     if out.len() < SEGMENT_AT + segment_len {
-        return guest.refused(Verdict::NoRoom(SEGMENT_AT + segment_len));
+        return refused(guest, Verdict::NoRoom(SEGMENT_AT + segment_len));
     }
     put_segment(ends, seq, ack, flags, data, out);
     let dst_mac = ends.dst_mac;
@@ -78,6 +79,13 @@ pub fn make_tcp_frame(
     )
 }
 
+// Nothing is built, and the record stays as it was.
+fn refused(guest: Guest, verdict: Verdict) -> Answer
+    ensures { λ r. ⌜ r ≡ record { verdict = verdict; guest = guest } ⌝ }
+{
+    Answer { verdict, guest }
+}
+
 // The segment, with its checksum, from 34 on.
 fn put_segment(ends: Endpoints, seq: u32, ack: u32, flags: u8, data: &[u8], out: &mut [u8])
     requires { ⌜ length (now «data») ≤ dataLimit flags ⌝ }
@@ -89,6 +97,16 @@ fn put_segment(ends: Endpoints, seq: u32, ack: u32, flags: u8, data: &[u8], out:
     let options = &all_options[..option_len];
     let header = summed_header(ends, seq, ack, flags, options, data);
     put_three(out, SEGMENT_AT, &header, options, data);
+}
+
+// Copies three pieces into `out` from `at` on, one behind the other.
+fn put_three(out: &mut [u8], at: usize, first: &[u8], second: &[u8], third: &[u8])
+    requires { ⌜ at + (length (now first) + length (now second) + length (now third)) ≤ length (now out) ⌝ }
+    ensures { λ _. ⌜ now (out .exit) ≡ Buffer·put at (now (first .entry) ++ now (second .entry) ++ now (third .entry)) (now (out .entry)) ⌝ }
+{
+    put(out, at, first);
+    put(out, at + first.len(), second);
+    put(out, at + first.len() + second.len(), third);
 }
 
 // The header with the segment's checksum in it.

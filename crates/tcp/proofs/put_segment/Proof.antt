@@ -5,12 +5,12 @@ use mathlib.Core.List.{List, _++_}
 use native.Mathlib.Omega.{arith}
 use lib.ListN.{take}
 use lib.Seq.{length-take-le}
 use Rattle.frames.specs.Buffer.{put}
-use Rattle.frames.specs.Rfc9293.{synOptions, segment}
-use Rattle.frames.proofs.TcpLaws.{options-take}
+use Rattle.tcp.specs.Rfc9293.{synOptions, segment}
+use Rattle.tcp.proofs.TcpLaws.{options-take}
 use borrow.Author.Needs.{needs}
-use Rattle.frames.proofs.tcp.put_segment.Statement.{statement}
-use Rattle.frames.proofs.tcp.put_segment.Tie as tie
+use Rattle.tcp.proofs.put_segment.Statement.{statement}
+use Rattle.tcp.proofs.put_segment.Tie as tie
 
 options-length-requires : tie.Need-options-length-requires
 options-length-requires c κs = search needs

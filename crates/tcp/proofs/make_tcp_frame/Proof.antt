@@ -2,13 +2,13 @@
 use mathlib.Core.Path.{sym, _∙_}
 use native.Mathlib.Omega.{arith}
 use lib.ListN.{length-map}
-use Rattle.frames.specs.Rfc9293.{segment, tcpFrame}
+use Rattle.tcp.specs.Rfc9293.{segment, tcpFrame}
 use Rattle.frames.proofs.Built.{refused-too-long, refused-no-room}
 use Rattle.frames.proofs.Framed.{framed-there}
-use Rattle.frames.proofs.TcpLaws.{limit-holds, length-segment}
+use Rattle.tcp.proofs.TcpLaws.{limit-holds, length-segment}
 use borrow.Author.Needs.{needs}
-use Rattle.frames.proofs.tcp.make_tcp_frame.Statement.{statement}
-use Rattle.frames.proofs.tcp.make_tcp_frame.Tie as tie
+use Rattle.tcp.proofs.make_tcp_frame.Statement.{statement}
+use Rattle.tcp.proofs.make_tcp_frame.Tie as tie
 
 options-length-requires : tie.Need-options-length-requires
 options-length-requires c κs = search needs

@@ -1,0 +1,2 @@
+pub mod Rfc9293
+pub mod Builders
