@@ -8,7 +8,7 @@ use Rattle.frames.specs.Answer.{Meets, fresh, paper}
 use Rattle.frames.specs.Network.{network}
 use Rattle.frames.specs.declared.answer.Answer.{Answer}
 use Rattle.frames.specs.declared.answer.Guest.{Guest}
-use Rattle.slirp.specs.Rules.{outcome}
+use Rattle.rules.specs.Rules.{outcome}
 use Rattle.gwone.specs.Printed.{answerText, outcomeText, guestMac, room}
 
 -- with a fresh record and 2,048 bytes of room, all 0

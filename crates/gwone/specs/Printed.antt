@@ -6,7 +6,7 @@ use lib.ListN.{length, getD, take, drop, replicate}
 use Rattle.frames.specs.Answer.{Outcome, fresh}
 use Rattle.frames.specs.Network.{network}
 use Rattle.frames.specs.Pick.{pick}
-use Rattle.slirp.specs.Rules.{outcome}
+use Rattle.rules.specs.Rules.{outcome}
 use Rattle.gwone.specs.Text.{ascii, decimal, hex}
 
 -- "It prints a word (`drop`, `reply`, `dns`, `relay`, `tcp`, `refused`)", by the verdict's number

@@ -20,14 +20,14 @@ use Rattle.frames.specs.declared.answer.Verdict.{Verdict}
 use Rattle.frames.specs.declared.answer.Verdict.the-variants as Verdict
 use Rattle.frames.specs.declared.network.Network.{Network}
 use Rattle.frames.proofs.OneAnswer.{paper-one-to-one}
-use Rattle.slirp.specs.Rules.{payload, datagramData, decision, framing, noting, unwritten, outcome, outcomeOf}
-use Rattle.slirp.specs.Rfc792.{echo}
-use Rattle.slirp.specs.Seen.{Carries, Message, Handed, EchoAsked}
-use Rattle.slirp.specs.declared.decision.Decision.{Decision}
-use Rattle.slirp.specs.declared.decision.Decision.the-variants.{Drop, DropNoting, ArpReply, EchoReply, DhcpReply, Dns, Relay, Tcp, TooLong, CutType}
+use Rattle.rules.specs.Rules.{payload, datagramData, decision, framing, noting, unwritten, outcome, outcomeOf}
+use Rattle.rules.specs.Rfc792.{echo}
+use Rattle.rules.specs.Seen.{Carries, Message, Handed, EchoAsked}
+use Rattle.rules.specs.declared.decision.Decision.{Decision}
+use Rattle.rules.specs.declared.decision.Decision.the-variants.{Drop, DropNoting, ArpReply, EchoReply, DhcpReply, Dns, Relay, Tcp, TooLong, CutType}
 use Rattle.slirp.proofs.Echo.{length-echo}
 use Rattle.slirp.proofs.ReadBack.{arp-reads-back, echo-frame-reads-back, dhcp-reads-back}
-use Rattle.slirp.proofs.Says.{Says, says, too-long-decided}
+use Rattle.rules.proofs.Says.{Says, says, too-long-decided}
 use Rattle.laws.specs.Table.{built, replyAtAmpleRoom, Returned, Unchanged, AtMostXid, ReplyBytesIdXid, Changed}
 
 -- every answer is one of the numbers 0 to 7

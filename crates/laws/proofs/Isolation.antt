@@ -12,7 +12,7 @@ use Rattle.frames.specs.declared.answer.Answer.{Answer}
 use Rattle.frames.specs.declared.answer.Guest.{Guest}
 use Rattle.frames.specs.declared.network.Network.{Network}
 use Rattle.frames.specs.Answer.{Meets}
-use Rattle.slirp.specs.Rules.{outcome}
+use Rattle.rules.specs.Rules.{outcome}
 use Rattle.slirp.proofs.OneAnswer.{handle-answers-once}
 use Rattle.laws.specs.Host.{Asked, Got, Call, Answered, Host, storing, Serves, ServesAlone, callsOf, asks, gets}
 

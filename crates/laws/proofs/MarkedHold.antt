@@ -4,10 +4,10 @@ use Rattle.dhcp.specs.Rfc2131.{reply}
 use Rattle.dhcp.specs.Rfc2132.{walk, walkFrom}
 use Rattle.frames.specs.Rfc768.{datagram}
 use Rattle.frames.specs.Rfc791.{header, headerWith, ipFrame}
-use Rattle.slirp.specs.Rfc792.{echo, echoWith}
-use Rattle.slirp.specs.Rfc826.{replyTo}
-use Rattle.slirp.specs.Rfc2131.{dhcpFrame}
-use Rattle.slirp.specs.Rules.{decision, arpDecision, ipDecision, icmpDecision, udpDecision, dhcpDecision, framing, outcomeOf, outcome}
+use Rattle.rules.specs.Rfc792.{echo, echoWith}
+use Rattle.rules.specs.Rfc826.{replyTo}
+use Rattle.rules.specs.Rfc2131.{dhcpFrame}
+use Rattle.rules.specs.Rules.{decision, arpDecision, ipDecision, icmpDecision, udpDecision, dhcpDecision, framing, outcomeOf, outcome}
 use Rattle.sums.specs.Rfc1071.{words, sum, total, fold, checksum}
 use Rattle.laws.specs.Marked.{All, marked, unmarked, longPing}
 

@@ -9,7 +9,7 @@ use Rattle.frames.specs.Pick.{pick}
 use Rattle.frames.specs.declared.answer.Answer.{Answer}
 use Rattle.frames.specs.declared.answer.Guest.{Guest}
 use Rattle.frames.specs.declared.network.Network.{Network}
-use Rattle.slirp.specs.Rules.{outcome}
+use Rattle.rules.specs.Rules.{outcome}
 
 -- what a call is handed: a frame and a buffer
 pub record Asked : Type 0 where

@@ -7,7 +7,7 @@ use Rattle.fields.specs.Bytes.{be16}
 use Rattle.frames.specs.Answer.{Outcome, fresh}
 use Rattle.frames.specs.Network.{network}
 use Rattle.frames.specs.declared.answer.Guest.{Guest}
-use Rattle.slirp.specs.Rules.{outcome}
+use Rattle.rules.specs.Rules.{outcome}
 use Rattle.sums.specs.Rfc1071.{checksum}
 
 pub data Case : Type 0 where

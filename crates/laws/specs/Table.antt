@@ -13,14 +13,14 @@ use Rattle.frames.specs.declared.answer.Guest.{Guest}
 use Rattle.frames.specs.declared.answer.Verdict.{Verdict}
 use Rattle.frames.specs.declared.answer.Verdict.the-variants.{Drop, Reply, Dns, Relay, Tcp, NoRoom, TooLong, CutType}
 use Rattle.frames.specs.declared.network.Network.{Network}
-use Rattle.slirp.specs.Rfc792.{echo}
-use Rattle.slirp.specs.Rfc826.{arpReply}
-use Rattle.slirp.specs.Rfc2131.{dhcpFrame}
-use Rattle.slirp.specs.Rules.{payload, datagramData, decision, noting}
-use Rattle.slirp.specs.Seen.{Carries, Handed, EchoAsked}
-use Rattle.slirp.specs.declared.decision.Decision.{Decision}
-use Rattle.slirp.specs.declared.decision.Decision.the-variants.{DropNoting, ArpReply, EchoReply, DhcpReply}
-use Rattle.slirp.specs.declared.decision.Decision.the-variants as Decision
+use Rattle.rules.specs.Rfc792.{echo}
+use Rattle.rules.specs.Rfc826.{arpReply}
+use Rattle.rules.specs.Rfc2131.{dhcpFrame}
+use Rattle.rules.specs.Rules.{payload, datagramData, decision, noting}
+use Rattle.rules.specs.Seen.{Carries, Handed, EchoAsked}
+use Rattle.rules.specs.declared.decision.Decision.{Decision}
+use Rattle.rules.specs.declared.decision.Decision.the-variants.{DropNoting, ArpReply, EchoReply, DhcpReply}
+use Rattle.rules.specs.declared.decision.Decision.the-variants as Decision
 
 -- the frame that a decision builds; `[]` where it builds none
 abbrev pub built : Network → Guest → (frame : List ℕ) → Decision → List ℕ

@@ -9,10 +9,10 @@ use Rattle.frames.specs.declared.answer.Answer.{Answer}
 use Rattle.frames.specs.declared.answer.Guest.{Guest}
 use Rattle.frames.specs.declared.answer.Verdict.{Verdict}
 use Rattle.frames.specs.declared.network.Network.{Network}
-use Rattle.slirp.specs.Rules.{payloadAt, decision, outcome, outcomeOf, unwritten}
-use Rattle.slirp.specs.declared.decision.Decision.{Decision}
-use Rattle.slirp.specs.declared.decision.Decision.the-variants.{EchoReply}
-use Rattle.slirp.proofs.Says.{Says, says}
+use Rattle.rules.specs.Rules.{payloadAt, decision, outcome, outcomeOf, unwritten}
+use Rattle.rules.specs.declared.decision.Decision.{Decision}
+use Rattle.rules.specs.declared.decision.Decision.the-variants.{EchoReply}
+use Rattle.rules.proofs.Says.{Says, says}
 
 -- the outcome is the decision's
 pub as-decided : (net : Network) (guest : Guest) (frame before after : List ℕ) (answer : Answer) (d : Decision) → decision net frame ≡ d

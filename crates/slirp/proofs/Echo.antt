@@ -9,7 +9,7 @@ use Rattle.fields.specs.Bytes.{be16}
 use Rattle.frames.specs.Buffer.{put, putIfFits}
 use Rattle.frames.proofs.Lists.{fits, length-put, put-put}
 use Rattle.sums.specs.Rfc1071.{words, sum, total, fold, checksum}
-use Rattle.slirp.specs.Rfc792.{echo, echoWith}
+use Rattle.rules.specs.Rfc792.{echo, echoWith}
 
 -- with a checksum field of 0 the message sums as what lies behind it
 pub blank-sum : (request : List ℕ) → checksum (echoWith 0 request) ≡ checksum (drop 4 request)

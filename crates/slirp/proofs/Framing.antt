@@ -13,7 +13,7 @@ use Rattle.frames.specs.declared.answer.Guest.{Guest}
 use Rattle.frames.specs.declared.answer.Verdict.the-variants.{Reply, NoRoom}
 use Rattle.frames.proofs.Fitting.{does-not-fit, does-fit}
 use Rattle.frames.proofs.Framed.{framed-there}
-use Rattle.slirp.specs.Rules.{framing}
+use Rattle.rules.specs.Rules.{framing}
 
 module _ (guest after : Guest) (need room : ℕ) (image before : List ℕ) where
   -- what is said is what is needed

@@ -1,11 +1,7 @@
-pub mod Same
-pub mod Ping
-pub mod Datagram
 pub mod Framing
 pub mod ArpPieces
 pub mod Echo
 pub mod LeasePieces
-pub mod Says
 pub mod Decided
 pub mod OneAnswer
 pub mod ReadBack

@@ -8,7 +8,7 @@ use Rattle.frames.specs.declared.answer.Answer.{Answer}
 use Rattle.frames.specs.declared.answer.Guest.{Guest}
 use Rattle.frames.specs.declared.network.Network.{Network}
 use Rattle.frames.proofs.OneAnswer.{one-outcome}
-use Rattle.slirp.specs.Rules.{outcome}
+use Rattle.rules.specs.Rules.{outcome}
 
 pub handle-answers-once : (net : Network) (guest : Guest) (frame before after after′ : List ℕ) (a a′ : Answer)
     → Meets (outcome net guest frame (length before)) before after a

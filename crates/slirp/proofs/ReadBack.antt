@@ -22,9 +22,9 @@ use Rattle.frames.proofs.Lists.{all-bytes}
 use Rattle.frames.proofs.ReadBack.{PacketOf, DatagramOf, ethernet-reads-back, frame-reads-back, datagram-reads-back}
 use Rattle.frames.proofs.SumsRight.{sums-right, frame-header-sums-right}
 use Rattle.sums.specs.Rfc1071.{words, sum, total, checksum, SumsRight}
-use Rattle.slirp.specs.Rfc792.{echo, echoWith}
-use Rattle.slirp.specs.Rfc826.{arpReply, replyTo}
-use Rattle.slirp.specs.Rfc2131.{dhcpFrame}
+use Rattle.rules.specs.Rfc792.{echo, echoWith}
+use Rattle.rules.specs.Rfc826.{arpReply, replyTo}
+use Rattle.rules.specs.Rfc2131.{dhcpFrame}
 use Rattle.slirp.proofs.LeasePieces.{length-reply-datagram}
 
 -- RFC 826: a reply for Ethernet and IPv4, in which the gateway's MAC stands for the gateway's address, to the one that asked

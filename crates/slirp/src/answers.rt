@@ -1,6 +1,6 @@
 // Answers that spend no id, and the record that has noted an xid.
 ghost use mathlib.Core.Path.{_≡_};
-ghost use Rattle.slirp.specs.Rules.{noting};
+ghost use Rattle.rules.specs.Rules.{noting};
 use frames::Answer;
 use frames::Guest;
 use frames::Verdict;

@@ -3,18 +3,18 @@ ghost use mathlib.Core.Path.{_≡_};
 ghost use lib.ListN.{length};
 ghost use Rattle.frames.specs.Answer.{Meets};
 ghost use Rattle.frames.specs.Network.{network};
-ghost use Rattle.slirp.specs.Rules.{outcome, outcomeOf};
+ghost use Rattle.rules.specs.Rules.{outcome};
 use crate::answers::answer;
 use crate::answers::noted;
 use crate::arp::handle_arp;
-use crate::decision::Decision;
-use crate::decision::decide;
 use crate::icmp::handle_icmp;
 use crate::lease::handle_dhcp;
 use frames::Answer;
 use frames::Guest;
 use frames::Network;
 use frames::Verdict;
+use rules::Decision;
+use rules::decide;
 
 // What a frame of this guest gets, on document 01's network.
 pub fn handle(guest: Guest, frame: &[u8], reply: &mut [u8]) -> Answer

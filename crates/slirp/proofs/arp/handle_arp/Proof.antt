@@ -7,7 +7,7 @@ use Rattle.fields.specs.Rfc826.{senderMac, senderAddress}
 use Rattle.fields.specs.Rfc894.{body}
 use Rattle.frames.specs.Buffer.{put}
 use Rattle.frames.proofs.Lists.{put-front}
-use Rattle.slirp.specs.Rfc826.{replyTo, arpReply}
+use Rattle.rules.specs.Rfc826.{replyTo, arpReply}
 use Rattle.slirp.proofs.Framing.{too-small, large-enough}
 use borrow.Author.Needs.{needs}
 use Rattle.slirp.proofs.arp.handle_arp.Statement.{statement}

@@ -3,7 +3,7 @@ use mathlib.Core.Path.{subst}
 use lib.ListN.{length}
 use Rattle.frames.specs.Answer.{Meets}
 use Rattle.frames.specs.declared.network.Network.{Network}
-use Rattle.slirp.specs.Rules.{outcome}
+use Rattle.rules.specs.Rules.{outcome}
 use borrow.Author.Needs.{needs}
 use Rattle.slirp.proofs.entry.handle.Statement.{statement}
 use Rattle.slirp.proofs.entry.handle.Tie as tie

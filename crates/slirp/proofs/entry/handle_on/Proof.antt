@@ -4,7 +4,7 @@ use Rattle.frames.specs.Answer.{paper}
 use Rattle.frames.specs.declared.answer.Answer.{Answer}
 use Rattle.frames.specs.declared.answer.Guest.{Guest}
 use Rattle.frames.specs.declared.answer.Verdict.the-variants.{Drop}
-use Rattle.slirp.specs.Rules.{outcomeOf}
+use Rattle.rules.specs.Rules.{outcomeOf}
 use Rattle.slirp.proofs.Decided.{as-decided, left-alone, request-inside}
 use borrow.Author.Needs.{needs}
 use Rattle.slirp.proofs.entry.handle_on.Statement.{statement}

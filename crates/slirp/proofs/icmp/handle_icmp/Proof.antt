@@ -8,7 +8,7 @@ use lib.ListN.{length-map}
 use Rattle.fields.specs.Rfc791.{sourceOf}
 use Rattle.fields.specs.Rfc894.{body, sourceMac}
 use Rattle.frames.specs.Buffer.{put}
-use Rattle.slirp.specs.Rfc792.{echo}
+use Rattle.rules.specs.Rfc792.{echo}
 use Rattle.slirp.proofs.Echo.{from-on, length-echo}
 use Rattle.slirp.proofs.Framing.{too-small, framed-in-place}
 use borrow.Author.Needs.{needs}

@@ -12,8 +12,8 @@ use Rattle.frames.specs.Answer.{Meets, spending}
 use Rattle.frames.specs.Network.{broadcastOf}
 use Rattle.frames.specs.Rfc768.{datagram}
 use Rattle.frames.proofs.Lengths.{length-datagram}
-use Rattle.slirp.specs.Rfc2131.{dhcpFrame}
-use Rattle.slirp.specs.Rules.{noting}
+use Rattle.rules.specs.Rfc2131.{dhcpFrame}
+use Rattle.rules.specs.Rules.{noting}
 use Rattle.slirp.proofs.Framing.{too-small, framed-in-place}
 use borrow.Author.Needs.{needs}
 use Rattle.slirp.proofs.lease.handle_dhcp.Statement.{statement}

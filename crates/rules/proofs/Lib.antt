@@ -1,0 +1,4 @@
+pub mod Same
+pub mod Ping
+pub mod Datagram
+pub mod Says

@@ -1,0 +1,203 @@
+-- What each decision says of its frame, and that a ping too long is always decided so.
+use Prim.Native.Nat.{ℕ, _+_, _-_, _≤_, _<_}
+use mathlib.Core.Path.{_≡_, refl, ap, subst⁻¹, _∙_}
+use mathlib.Core.Bool.{Bool, true, false, not, _&&_}
+use mathlib.Core.List.{List}
+use native.Mathlib.Omega.{arith}
+use borrow.Author.Tests.{ltb-true, ltb-false, lt-ltb, le-ltb, eqb-true, eq-eqb, ne-eqb, not-false}
+use lib.Dec.{T, ltb, eqb}
+use lib.ListN.{length, length-drop}
+use Rattle.dhcp.specs.Rfc2131.{answering}
+use Rattle.dhcp.specs.Rfc2132.{Walked, typed, cut, walk}
+use Rattle.fields.specs.Rfc768.{sourcePort, targetPort, lengthField}
+use Rattle.fields.specs.Rfc791.{protocolOf, targetOf}
+use Rattle.fields.specs.Rfc792.{messageType}
+use Rattle.fields.specs.Rfc826 as Arp
+use Rattle.fields.specs.Rfc894.{body, typeOf}
+use Rattle.fields.specs.Rfc2131 as Dhcp
+use Rattle.frames.specs.Pick.{pick}
+use Rattle.frames.specs.declared.network.Network.{Network}
+use Rattle.rules.specs.Rules.{payloadAt, payload, dataAt, dataLength, datagramData, decision, arpDecision, ipDecision, icmpDecision, udpDecision, dhcpDecision, typeDecision}
+use Rattle.rules.specs.Same.{same}
+use Rattle.rules.specs.Seen.{Carries, Message, Handed, EchoAsked}
+use Rattle.rules.specs.declared.decision.Decision.{Decision}
+use Rattle.rules.specs.declared.decision.Decision.the-variants.{Drop, DropNoting, ArpReply, EchoReply, DhcpReply, Dns, Relay, Tcp, TooLong, CutType}
+use Rattle.rules.proofs.Same.{same-equal, equal-same}
+
+unfoldable pub Says : Network → (frame : List ℕ) → Decision → Type 0
+Says net frame Drop = Unit
+Says net frame (DropNoting xid) = Message frame xid
+Says net frame ArpReply = (typeOf frame ≡ 0x0806) × (42 ≤ length frame)
+Says net frame (EchoReply start) = EchoAsked net frame × (start ≡ payloadAt frame) × (length (payload frame) ≤ 65515)
+Says net frame (DhcpReply xid type) = Message frame xid
+Says net frame (Dns start len) = Handed frame start len × (targetOf (body frame) ≡ net .gateway) × (targetPort (payload frame) ≡ 53)
+Says net frame (Relay start len) = Handed frame start len
+Says net frame (Tcp len) = Carries frame 6 × (len ≡ length frame)
+Says net frame (TooLong len) = EchoAsked net frame × (len ≡ length (payload frame)) × (65515 < len)
+Says net frame (CutType place) = Carries frame 17 × (walk (datagramData frame) ≡ cut place)
+
+module _ (net : Network) (frame : List ℕ) where
+  nothing : Says net frame Drop
+  unfolding Says
+  nothing = tt
+
+  noted : (xid : ℕ) → Message frame xid → Says net frame (DropNoting xid)
+  unfolding Says
+  noted xid m = m
+
+  answered : (xid type : ℕ) → Message frame xid → Says net frame (DhcpReply xid type)
+  unfolding Says
+  answered xid type m = m
+
+  asked : typeOf frame ≡ 0x0806 → 42 ≤ length frame → Says net frame ArpReply
+  unfolding Says
+  asked t long = (t, long)
+
+  pinged : EchoAsked net frame → length (payload frame) ≤ 65515 → Says net frame (EchoReply (payloadAt frame))
+  unfolding Says
+  pinged r within = (r, refl, within)
+
+  too-long : EchoAsked net frame → 65515 < length (payload frame) → Says net frame (TooLong (length (payload frame)))
+  unfolding Says
+  too-long r over = (r, refl, over)
+
+  named : (start len : ℕ) → Handed frame start len → targetOf (body frame) ≡ net .gateway → targetPort (payload frame) ≡ 53 → Says net frame (Dns start len)
+  unfolding Says
+  named start len h t p = (h, t, p)
+
+  sent : (start len : ℕ) → Handed frame start len → Says net frame (Relay start len)
+  unfolding Says
+  sent start len h = h
+
+  segment : Carries frame 6 → Says net frame (Tcp (length frame))
+  unfolding Says
+  segment c = (c, refl)
+
+  cut-off : (place : ℕ) → Carries frame 17 → walk (datagramData frame) ≡ cut place → Says net frame (CutType place)
+  unfolding Says
+  cut-off place c e = (c, e)
+
+-- what holds in both cases of a test holds
+either : (P : Decision → Type 0) (t : Bool) (a b : Decision) → (t ≡ true → P a) → (t ≡ false → P b) → P (pick t a b)
+either P true a b f g = f refl
+either P false a b f g = g refl
+
+both-true : (x y : Bool) → (x && y) ≡ true → (x ≡ true) × (y ≡ true)
+both-true true y e = (refl, e)
+both-true false y e = absurd (subst⁻¹ T e tt)
+
+module _ (net : Network) (frame : List ℕ) where
+  arp-says : typeOf frame ≡ 0x0806 → Says net frame (arpDecision net frame)
+  unfolding arpDecision
+  arp-says t =
+      either (Says net frame) (ltb (length frame) 42) _ _ (λ e. nothing net frame) (λ long.
+      either (Says net frame) (not (eqb (Arp.operation (body frame)) 1)) _ _ (λ e. nothing net frame) (λ f.
+      either (Says net frame) (not (same (Arp.soughtAddress (body frame)) (net .gateway))) _ _ (λ e. nothing net frame) (λ g.
+      asked net frame t (ltb-false (length frame) 42 long))))
+
+  icmp-says : Carries frame 1 → Says net frame (icmpDecision net frame)
+  unfolding icmpDecision
+  icmp-says icmp =
+      either (Says net frame) (not (same (targetOf (body frame)) (net .gateway))) _ _ (λ e. nothing net frame) (λ ours.
+      either (Says net frame) (ltb (length frame) (payloadAt frame)) _ _ (λ f. nothing net frame) (λ past.
+      either (Says net frame) (ltb (length (payload frame)) 8) _ _ (λ f. nothing net frame) (λ short.
+      either (Says net frame) (not (eqb (messageType (payload frame)) 8)) _ _ (λ f. nothing net frame) (λ type.
+      let r : EchoAsked net frame =
+      record {
+        icmp = icmp;
+        to-gateway = same-equal _ _ (not-false _ ours);
+        there = ltb-false (length frame) (payloadAt frame) past;
+        whole = ltb-false (length (payload frame)) 8 short;
+        request = eqb-true (messageType (payload frame)) 8 (not-false _ type);
+      } in
+      either (Says net frame) (ltb 65515 (length (payload frame))) _ _
+      (λ over. too-long net frame r (ltb-true 65515 (length (payload frame)) over))
+      (λ within. pinged net frame r (ltb-false 65515 (length (payload frame)) within))))))
+
+  type-says : Message frame (Dhcp.transactionId (datagramData frame)) → (w : Walked) → walk (datagramData frame) ≡ w
+      → Says net frame (typeDecision (Dhcp.transactionId (datagramData frame)) w)
+  type-says m (typed type) e = either (Says net frame) (eqb (answering type) 0) _ _ (λ f. noted net frame _ m) (λ f. answered net frame _ _ m)
+  type-says m (cut place) e = cut-off net frame place (m .udp) e
+
+  dhcp-says : Carries frame 17 → Says net frame (dhcpDecision (datagramData frame))
+  unfolding dhcpDecision
+  dhcp-says udp =
+      either (Says net frame) (ltb (length (datagramData frame)) 240) _ _ (λ e. nothing net frame) (λ short.
+      either (Says net frame) (not (eqb (Dhcp.operation (datagramData frame)) 1)) _ _ (λ e. nothing net frame) (λ client.
+      let m : Message frame (Dhcp.transactionId (datagramData frame)) =
+      record {
+        udp = udp;
+        fixed = ltb-false (length (datagramData frame)) 240 short;
+        from-client = eqb-true (Dhcp.operation (datagramData frame)) 1 (not-false _ client);
+        its-xid = refl;
+      } in
+      either (Says net frame) (not (eqb (Dhcp.magicCookie (datagramData frame)) 0x63825363)) _ _ (λ e. noted net frame _ m) (λ g.
+      type-says m (walk (datagramData frame)) refl)))
+
+  udp-says : Carries frame 17 → Says net frame (udpDecision net frame)
+  unfolding udpDecision
+  udp-says udp =
+      let cut = length-drop (payloadAt frame) frame in
+      either (Says net frame) (ltb (length frame) (payloadAt frame)) _ _ (λ e. nothing net frame) (λ past.
+      either (Says net frame) (ltb (length (payload frame)) 8) _ _ (λ e. nothing net frame) (λ short.
+      either (Says net frame) (ltb (lengthField (payload frame)) 8) _ _ (λ e. nothing net frame) (λ small.
+      let there = ltb-false (length frame) (payloadAt frame) past in
+      let eight = ltb-false (length (payload frame)) 8 short in
+      let handed : Handed frame (dataAt frame) (dataLength frame) =
+      record { udp = udp; inside = omega (arith, cut, no-longer (length (payload frame)) (lengthField (payload frame)), there, eight); its-data = refl } in
+      either (Says net frame) (eqb (sourcePort (payload frame)) 68 && eqb (targetPort (payload frame)) 67) _ _ (λ e. dhcp-says udp) (λ e.
+      either (Says net frame) (same (targetOf (body frame)) (net .gateway) && eqb (targetPort (payload frame)) 53) _ _
+      (λ e.
+      let b = both-true (same (targetOf (body frame)) (net .gateway)) (eqb (targetPort (payload frame)) 53) e in
+      named net frame _ _ handed (same-equal _ _ (b .0)) (eqb-true (targetPort (payload frame)) 53 (b .1)))
+      (λ e. sent net frame _ _ handed)))))
+    where
+      no-longer : (l f : ℕ) → pick (ltb l f) l f ≤ l
+      no-longer l f = go (ltb l f) refl
+        where
+          go : (t : Bool) → ltb l f ≡ t → pick t l f ≤ l
+          go true e = omega arith
+          go false e = ltb-false l f e
+
+  ip-says : typeOf frame ≡ 0x0800 → Says net frame (ipDecision net frame)
+  unfolding ipDecision
+  ip-says t =
+      let carries : (protocol : ℕ) → ltb (length frame) 34 ≡ false → eqb (protocolOf (body frame)) protocol ≡ true → Carries frame protocol =
+      λ protocol short p. record { long = ltb-false (length frame) 34 short; ipv4 = t; carried = eqb-true (protocolOf (body frame)) protocol p } in
+      either (Says net frame) (ltb (length frame) 34) _ _ (λ e. nothing net frame) (λ short.
+      either (Says net frame) (eqb (protocolOf (body frame)) 1) _ _ (λ p. icmp-says (carries 1 short p)) (λ e.
+      either (Says net frame) (eqb (protocolOf (body frame)) 6) _ _ (λ p. segment net frame (carries 6 short p)) (λ f.
+      either (Says net frame) (eqb (protocolOf (body frame)) 17) _ _ (λ p. udp-says (carries 17 short p)) (λ g. nothing net frame))))
+
+  pub says : Says net frame (decision net frame)
+  unfolding decision
+  says =
+      either (Says net frame) (ltb (length frame) 14) _ _ (λ e. nothing net frame) (λ e.
+      either (Says net frame) (eqb (typeOf frame) 0x0806) _ _ (λ t. arp-says (eqb-true (typeOf frame) 0x0806 t)) (λ f.
+      either (Says net frame) (eqb (typeOf frame) 0x0800) _ _ (λ t. ip-says (eqb-true (typeOf frame) 0x0800 t)) (λ g. nothing net frame)))
+
+  -- the tests that a ping passes lead to its length
+  echo-decided : EchoAsked net frame → decision net frame ≡ pick (ltb 65515 (length (payload frame))) (TooLong (length (payload frame))) (EchoReply (payloadAt frame))
+  unfolding decision ipDecision icmpDecision
+  echo-decided a =
+      let c = a .icmp in
+      let ours : same (targetOf (body frame)) (net .gateway) ≡ true = ap (λ (l : List ℕ). same l (net .gateway)) (a .to-gateway) ∙ equal-same (net .gateway) in
+      simp (
+        le-ltb (length frame) 14 (omega (arith, c .long)),
+        ne-eqb (typeOf frame) 0x0806 (λ e. omega (arith, e, c .ipv4)),
+        eq-eqb (typeOf frame) 0x0800 (c .ipv4),
+        le-ltb (length frame) 34 (c .long),
+        eq-eqb (protocolOf (body frame)) 1 (c .carried),
+        ours,
+        le-ltb (length frame) (payloadAt frame) (a .there),
+        le-ltb (length (payload frame)) 8 (a .whole),
+        eq-eqb (messageType (payload frame)) 8 (a .request),
+      )
+
+  -- a ping too long is decided so
+  pub too-long-decided : EchoAsked net frame → 65515 < length (payload frame) → decision net frame ≡ TooLong (length (payload frame))
+  too-long-decided a over = rw (lt-ltb 65515 (length (payload frame)) over) at (echo-decided a)
+
+  -- and one that is not is answered
+  pub echo-answered : EchoAsked net frame → length (payload frame) ≤ 65515 → decision net frame ≡ EchoReply (payloadAt frame)
+  echo-answered a within = rw (le-ltb 65515 (length (payload frame)) within) at (echo-decided a)

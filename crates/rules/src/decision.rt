@@ -1,0 +1,280 @@
+// Document 01's tests on a guest frame, in its order. Nothing here looks at the record or at the room.
+ghost use mathlib.Core.Path.{_≡_};
+ghost use mathlib.Core.Bool.{_&&_};
+ghost use Prim.Native.Nat.{_-_, _≤_};
+ghost use lib.ListN.{length};
+ghost use lib.Dec.{eqb, ltb};
+ghost use Rattle.frames.specs.Pick.{pick};
+ghost use Rattle.rules.specs.Rules.{decision, arpDecision, ipDecision, icmpDecision, udpDecision, dhcpDecision, typeDecision};
+ghost use Rattle.rules.specs.Same.{same as Same·same};
+ghost use Rattle.dhcp.specs.Found.{told};
+use dhcp::Found;
+use dhcp::message_type;
+use dhcp::reply_type;
+use fields::address_at;
+use fields::byte_at;
+use fields::eth_type;
+use fields::ip_dst;
+use fields::ip_hlen;
+use fields::ip_proto;
+use fields::u16be;
+use fields::u32be;
+use frames::Network;
+
+// What is to be done with a frame. A start or a place is counted from the frame's first byte, but
+// for CutType's, which is counted from the DHCP data's.
+pub enum Decision {
+    Drop,
+    // A DHCP message gets no reply, and its xid is noted.
+    DropNoting(u32),
+    ArpReply,
+    // The echo request runs from `start` to the end of the frame.
+    EchoReply { start: usize },
+    DhcpReply { xid: u32, kind: u8 },
+    Dns { start: usize, len: usize },
+    Relay { start: usize, len: usize },
+    Tcp(usize),
+    TooLong(usize),
+    CutType(usize),
+}
+
+const ETHERTYPE_ARP: u16 = 0x0806;
+
+const ETHERTYPE_IP: u16 = 0x0800;
+
+const IP_PROTO_ICMP: u8 = 1;
+
+const IP_PROTO_TCP: u8 = 6;
+
+const IP_PROTO_UDP: u8 = 17;
+
+// Lengths of headers, and of what has one length.
+const ETHERNET_HEADER: usize = 14;
+
+const IP_FRAME: usize = 14 + 20;
+
+const ARP_FRAME: usize = 14 + 28;
+
+const ICMP_HEADER: usize = 8;
+
+const UDP_HEADER: usize = 8;
+
+const DHCP_FIXED: usize = 240;
+
+// The longest payload of an IPv4 packet whose header has 20 bytes.
+const PAYLOAD_LIMIT: usize = 65515;
+
+// Fields.
+const ARP_OPERATION: usize = 14 + 6;
+
+const ARP_TARGET: usize = 14 + 24;
+
+const UDP_DESTINATION: usize = 2;
+
+const UDP_LENGTH: usize = 4;
+
+const DHCP_XID: usize = 4;
+
+const DHCP_COOKIE: usize = 236;
+
+// Values.
+const ARP_REQUEST: u16 = 1;
+
+const ECHO_REQUEST: u8 = 8;
+
+const BOOT_REQUEST: u8 = 1;
+
+const MAGIC_COOKIE: u32 = 0x63825363;
+
+const DHCP_CLIENT_PORT: u16 = 68;
+
+const DHCP_SERVER_PORT: u16 = 67;
+
+const DNS_PORT: u16 = 53;
+
+pub fn decide(net: Network, frame: &[u8]) -> Decision
+    ensures { λ r. ⌜ r ≡ decision net (now (frame .entry)) ⌝ }
+{
+    if frame.len() < ETHERNET_HEADER {
+        return Decision::Drop;
+    }
+    let kind = eth_type(frame);
+    if kind == ETHERTYPE_ARP {
+        return decide_arp(net, frame);
+    }
+    if kind == ETHERTYPE_IP {
+        return decide_ip(net, frame);
+    }
+    Decision::Drop
+}
+
+fn decide_arp(net: Network, frame: &[u8]) -> Decision
+    ensures { λ r. ⌜ r ≡ arpDecision net (now (frame .entry)) ⌝ }
+{
+    if frame.len() < ARP_FRAME {
+        return Decision::Drop;
+    }
+    if u16be(frame, ARP_OPERATION) != ARP_REQUEST {
+        return Decision::Drop;
+    }
+    let gateway = net.gateway;
+    if !same(address_at(frame, ARP_TARGET), gateway) {
+        return Decision::Drop;
+    }
+    Decision::ArpReply
+}
+
+fn decide_ip(net: Network, frame: &[u8]) -> Decision
+    ensures { λ r. ⌜ r ≡ ipDecision net (now (frame .entry)) ⌝ }
+{
+    if frame.len() < IP_FRAME {
+        return Decision::Drop;
+    }
+    let proto = ip_proto(frame);
+    if proto == IP_PROTO_ICMP {
+        return decide_icmp(net, frame);
+    }
+    if proto == IP_PROTO_TCP {
+        return Decision::Tcp(frame.len());
+    }
+    if proto == IP_PROTO_UDP {
+        return decide_udp(net, frame);
+    }
+    Decision::Drop
+}
+
+fn decide_icmp(net: Network, frame: &[u8]) -> Decision
+    ensures { λ r. ⌜ r ≡ icmpDecision net (now (frame .entry)) ⌝ }
+{
+    let gateway = net.gateway;
+    if !same(ip_dst(frame), gateway) {
+        return Decision::Drop;
+    }
+    let start = ETHERNET_HEADER + ip_hlen(frame);
+    if frame.len() < start {
+        return Decision::Drop;
+    }
+    let len = payload_length(frame, start);
+    if len < ICMP_HEADER {
+        return Decision::Drop;
+    }
+    if byte_at(frame, start) != ECHO_REQUEST {
+        return Decision::Drop;
+    }
+    if PAYLOAD_LIMIT < len {
+        return Decision::TooLong(len);
+    }
+    Decision::EchoReply { start }
+}
+
+fn decide_udp(net: Network, frame: &[u8]) -> Decision
+    ensures { λ r. ⌜ r ≡ udpDecision net (now (frame .entry)) ⌝ }
+{
+    let gateway = net.gateway;
+    let target = ip_dst(frame);
+    let header = ETHERNET_HEADER + ip_hlen(frame);
+    if frame.len() < header {
+        return Decision::Drop;
+    }
+    let size = payload_length(frame, header);
+    if size < UDP_HEADER {
+        return Decision::Drop;
+    }
+    let stated = u16be(frame, header + UDP_LENGTH) as usize;
+    if stated < UDP_HEADER {
+        return Decision::Drop;
+    }
+    let start = header + UDP_HEADER;
+    let len = smaller(stated - UDP_HEADER, size - UDP_HEADER);
+    let destination = u16be(frame, header + UDP_DESTINATION);
+    if is_dhcp(u16be(frame, header), destination) {
+        return decide_dhcp(&frame[start..start + len]);
+    }
+    if is_dns(gateway, target, destination) {
+        return Decision::Dns { start, len };
+    }
+    Decision::Relay { start, len }
+}
+
+// The payload runs from `start` to the end of the frame, whatever total length the packet states; past
+// the end it has no byte.
+pub fn payload_length(frame: &[u8], start: usize) -> usize
+    ensures { λ r. ⌜ r ≡ length (now (frame .entry)) - start ⌝ }
+{
+    if frame.len() < start {
+        return 0;
+    }
+    frame.len() - start
+}
+
+// DHCP data, whoever it is addressed to.
+fn decide_dhcp(message: &[u8]) -> Decision
+    ensures { λ r. ⌜ r ≡ dhcpDecision (now (message .entry)) ⌝ }
+{
+    if message.len() < DHCP_FIXED {
+        return Decision::Drop;
+    }
+    if byte_at(message, 0) != BOOT_REQUEST {
+        return Decision::Drop;
+    }
+    let xid = u32be(message, DHCP_XID);
+    if u32be(message, DHCP_COOKIE) != MAGIC_COOKIE {
+        return Decision::DropNoting(xid);
+    }
+    decide_type(xid, message_type(message))
+}
+
+fn decide_type(xid: u32, found: Found) -> Decision
+    ensures { λ r. ⌜ r ≡ typeDecision xid (told found) ⌝ }
+{
+    match found {
+        Found::MessageType(received) => {
+            let kind = reply_type(received);
+            if kind == 0 {
+                return Decision::DropNoting(xid);
+            }
+            Decision::DhcpReply { xid, kind }
+        }
+        Found::CutAt(place) => Decision::CutType(place),
+    }
+}
+
+fn smaller(a: usize, b: usize) -> usize
+    ensures { λ r. ⌜ (r ≡ pick (ltb b a) b a) × (r ≤ b) ⌝ }
+{
+    if b < a {
+        return b;
+    }
+    a
+}
+
+// Whatever address it is sent to.
+fn is_dhcp(source: u16, destination: u16) -> bool
+    ensures { λ r. ⌜ r ≡ (eqb source 68 && eqb destination 67) ⌝ }
+{
+    (source == DHCP_CLIENT_PORT) & (destination == DHCP_SERVER_PORT)
+}
+
+fn is_dns(gateway: [u8; 4], target: [u8; 4], destination: u16) -> bool
+    ensures { λ r. ⌜ r ≡ (Same·same target gateway && eqb destination 53) ⌝ }
+{
+    if !same(target, gateway) {
+        return false;
+    }
+    destination == DNS_PORT
+}
+
+fn same(a: [u8; 4], b: [u8; 4]) -> bool
+    ensures { λ r. ⌜ r ≡ Same·same a b ⌝ }
+{
+    if a[0] != b[0] {
+        return false;
+    }
+    if a[1] != b[1] {
+        return false;
+    }
+    if a[2] != b[2] {
+        return false;
+    }
+    a[3] == b[3]
+}
