@@ -1,37 +1,35 @@
--- Demand 1, of whatever meets the contract of `handle`: one answer of the numbers 0 to 7, and what it changes.
-use Prim.Native.Nat.{ℕ, _+_, _%_, _≤_, _<_}
+-- Demand 1, of whatever meets the contract of `handle_on`, and so of `handle`: one answer of the numbers 0 to 7, what it says and what it changes, by the
+-- decision behind it. "Exactly" is said of 5 and 6, and of 4; of the others the contract says it.
+use Prim.Native.Nat.{ℕ, _+_, _≤_, _<_}
 use mathlib.Core.Path.{_≡_, refl, ap, sym, subst, _∙_}
 use mathlib.Core.Bool.{Bool, true, false}
 use mathlib.Core.List.{List, [], _∷_, _++_}
 use native.Mathlib.Omega.{arith}
-use borrow.Author.Tests.{ltb-true, ltb-false, lt-ltb, le-ltb}
+use borrow.Author.Tests.{ltb-true, ltb-false}
 use lib.Dec.{ltb}
-use lib.ListN.{length, getD, take, drop, length-drop}
+use lib.ListN.{length, getD, take, drop}
 use lib.Seq.{take-append-seam, drop-append-seam}
 use Rattle.dhcp.proofs.ReadBack.{FourBytes}
-use Rattle.dhcp.specs.Rfc2132.{cut, walk}
-use Rattle.fields.specs.Rfc791.{protocolOf}
-use Rattle.fields.specs.Rfc894.{body, typeOf}
-use Rattle.fields.specs.Rfc2131.{transactionId}
 use Rattle.frames.specs.Answer.{paper, Meets, spent}
+use Rattle.frames.specs.Network.{network}
 use Rattle.frames.specs.declared.answer.Answer.{Answer}
 use Rattle.frames.specs.declared.answer.Guest.{Guest}
 use Rattle.frames.specs.declared.answer.Verdict.{Verdict}
 use Rattle.frames.specs.declared.answer.Verdict.the-variants as Verdict
 use Rattle.frames.specs.declared.network.Network.{Network}
 use Rattle.frames.proofs.OneAnswer.{paper-one-to-one}
-use Rattle.rules.specs.Rules.{payload, datagramData, decision, framing, noting, unwritten, outcome, outcomeOf}
 use Rattle.rules.specs.Rfc792.{echo}
-use Rattle.rules.specs.Seen.{Carries, Message, Handed, EchoAsked}
+use Rattle.rules.specs.Rules.{payloadAt, payload, decision, framing, noting, unwritten, outcome, outcomeOf}
+use Rattle.rules.specs.Seen.{Carries, CutMessage, Query, Outbound, EchoAsked, TooLongPing, Segment}
 use Rattle.rules.specs.declared.decision.Decision.{Decision}
 use Rattle.rules.specs.declared.decision.Decision.the-variants.{Drop, DropNoting, ArpReply, EchoReply, DhcpReply, Dns, Relay, Tcp, TooLong, CutType}
+use Rattle.rules.proofs.Says.{Says, says, tcp-decided, echo-answered, too-long-decided}
 use Rattle.slirp.proofs.Echo.{length-echo}
 use Rattle.slirp.proofs.ReadBack.{arp-reads-back, echo-frame-reads-back, dhcp-reads-back}
-use Rattle.rules.proofs.Says.{Says, says, too-long-decided}
-use Rattle.laws.specs.Table.{built, replyAtAmpleRoom, Returned, Unchanged, AtMostXid, ReplyBytesIdXid, Changed}
+use Rattle.laws.specs.Table.{built, replyAtAmpleRoom, Returned, Unchanged, XidAtMost, kept, noted, AtMostXid, ReplyBytesIdXid, Changed}
 
--- every answer is one of the numbers 0 to 7
-pub numbered : (v : Verdict) → getD (paper v) 0 0 ≤ 7
+-- every answer has a number, and it is one of 0 to 7 (where there were none, this would read 8)
+pub numbered : (v : Verdict) → getD (paper v) 0 8 ≤ 7
 unfolding paper
 numbered Verdict.Drop = omega arith
 numbered (Verdict.Reply n) = omega arith
@@ -45,12 +43,12 @@ numbered (Verdict.CutType place) = omega arith
 -- a frame that is to be built: 5 with less room than it needs, else 1
 data Framed (guest next : Guest) (image before after : List ℕ) (answer : Answer) : Type 0 where
   short : length before < length image → answer .verdict ≡ Verdict.NoRoom (length image) → answer .guest ≡ guest → after ≡ before → Framed guest next image before after answer
-  fits : length image ≤ length before → answer .verdict ≡ Verdict.Reply (length image) → answer .guest ≡ next → after ≡ image ++ drop (length image) before → Framed guest next image before after answer
+  fits : 0 < length image → length image ≤ length before → answer .verdict ≡ Verdict.Reply (length image) → answer .guest ≡ next → after ≡ image ++ drop (length image) before → Framed guest next image before after answer
 
-framed : (guest next : Guest) (need : ℕ) (image before after : List ℕ) (answer : Answer) → length image ≡ need
+framed : (guest next : Guest) (need : ℕ) (image before after : List ℕ) (answer : Answer) → length image ≡ need → 0 < need
     → Meets (framing guest next need (length before) image) before after answer → Framed guest next image before after answer
 unfolding framing paper
-framed guest next need image before after answer e m = go (ltb (length before) need) refl
+framed guest next need image before after answer e p m = go (ltb (length before) need) refl
   where
     go : (t : Bool) → ltb (length before) need ≡ t → Framed guest next image before after answer
     go true f =
@@ -58,7 +56,7 @@ framed guest next need image before after answer e m = go (ltb (length before) n
         short (omega (arith, ltb-true (length before) need f, e)) (paper-one-to-one _ (Verdict.NoRoom (length image)) (m′ .wrote .numbers ∙ ap (λ (n : ℕ). 5 ∷ n ∷ []) (sym e))) (m′ .guest) (m′ .wrote .bytes)
     go false f =
         let m′ = rw f at m in
-        fits (omega (arith, ltb-false (length before) need f, e)) (paper-one-to-one _ (Verdict.Reply (length image)) (m′ .wrote .numbers ∙ ap (λ (n : ℕ). 1 ∷ n ∷ []) (sym e))) (m′ .guest) (m′ .wrote .bytes)
+        fits (omega (arith, e, p)) (omega (arith, ltb-false (length before) need f, e)) (paper-one-to-one _ (Verdict.Reply (length image)) (m′ .wrote .numbers ∙ ap (λ (n : ℕ). 1 ∷ n ∷ []) (sym e))) (m′ .guest) (m′ .wrote .bytes)
 
 -- nothing is written
 record Quiet (v : Verdict) (next : Guest) (before after : List ℕ) (answer : Answer) : Type 0 where
@@ -88,12 +86,12 @@ module _ (net : Network) (guest : Guest) (frame before after : List ℕ) (answer
     unfolding Came outcomeOf Says paper
     came Drop s m = quiet Verdict.Drop guest m
     came (DropNoting xid) s m = quiet Verdict.Drop (noting xid guest) m
-    came ArpReply s m = framed guest guest 42 _ before after answer (arp-reads-back net frame (four .gateway) .long) m
+    came ArpReply s m = framed guest guest 42 _ before after answer (arp-reads-back net frame (four .gateway) .long) (omega arith) m
     came (EchoReply start) s m =
         let eight = subst (λ (n : ℕ). 8 ≤ length (drop n frame)) (sym (s .1)) (s .0 .whole) in
         framed guest (spent guest) _ _ before after answer
-        (echo-frame-reads-back net (guest .id) frame (echo (drop start frame)) (four .gateway) .long ∙ ap (λ (n : ℕ). 34 + n) (length-echo (drop start frame) (omega (arith, eight)))) m
-    came (DhcpReply xid type) s m = framed guest (spent (noting xid guest)) 342 _ before after answer (dhcp-reads-back net guest frame xid type four six .long) m
+        (echo-frame-reads-back net (guest .id) frame (echo (drop start frame)) (four .gateway) .long ∙ ap (λ (n : ℕ). 34 + n) (length-echo (drop start frame) (omega (arith, eight)))) (omega arith) m
+    came (DhcpReply xid type) s m = framed guest (spent (noting xid guest)) 342 _ before after answer (dhcp-reads-back net guest frame xid type four six .long) (omega arith) m
     came (Dns start len) s m = quiet (Verdict.Dns start len) guest m
     came (Relay start len) s m = quiet (Verdict.Relay start len) guest m
     came (Tcp len) s m = quiet (Verdict.Tcp len) guest m
@@ -104,14 +102,11 @@ module _ (net : Network) (guest : Guest) (frame before after : List ℕ) (answer
   unchanged : (v : Verdict) → Quiet v guest before after answer → Unchanged guest (answer .guest) before after
   unchanged v q = record { kept = q .guest-is; untouched = q .untouched }
 
-  noted : (xid : ℕ) → Quiet Verdict.Drop (noting xid guest) before after answer → AtMostXid guest (answer .guest) before after
-  noted xid q = record { kept-but-xid = q .guest-is ∙ ap (λ (x : ℕ). noting x guest) (sym (ap (λ (g : Guest). g .xid) (q .guest-is))); untouched = q .untouched }
-
   -- what a frame that is to be built changes: nothing on 5
   framed-changed : (next : Guest) (image : List ℕ) → (drop (length image) after ≡ drop (length image) before → answer .guest ≡ next → ReplyBytesIdXid frame (length image) guest (answer .guest) before after)
       → Framed guest next image before after answer → Changed frame (answer .verdict) guest (answer .guest) before after
   framed-changed next image f (short r v g b) = subst (λ (x : Verdict). Changed frame x guest (answer .guest) before after) (sym v) (record { kept = g; untouched = b })
-  framed-changed next image f (fits r v g b) =
+  framed-changed next image f (fits p r v g b) =
       subst (λ (x : Verdict). Changed frame x guest (answer .guest) before after) (sym v)
       (f (ap (drop (length image)) b ∙ drop-append-seam image (drop (length image) before)) g)
 
@@ -123,14 +118,15 @@ module _ (net : Network) (guest : Guest) (frame before after : List ℕ) (answer
 
   changed-by : (d : Decision) → Says net frame d → Came d → Changed frame (answer .verdict) guest (answer .guest) before after
   unfolding Came Says
-  changed-by Drop s c = at (c .verdict-is) (record { kept-but-xid = c .guest-is ∙ ap (λ (x : ℕ). noting x guest) (sym (ap (λ (g : Guest). g .xid) (c .guest-is))); untouched = c .untouched })
-  changed-by (DropNoting xid) s c = at (c .verdict-is) (noted xid c)
+  changed-by Drop s c = at (c .verdict-is) (record { kept-but-xid = kept (c .guest-is); untouched = c .untouched })
+  changed-by (DropNoting xid) s c = at (c .verdict-is) (record { kept-but-xid = noted xid s (c .guest-is); untouched = c .untouched })
   changed-by ArpReply s c =
       framed-changed guest (built net guest frame ArpReply)
       (λ rest g.
       record {
         rest-untouched = rest;
         mac-kept = ap (λ (x : Guest). x .mac) g;
+        arp-or-ipv4 = λ n. absurd (n (s .0));
         arp-keeps-all = λ t. g;
         ipv4-takes-id = λ t. absurd (omega (arith, t, s .0));
         xid-kept-but-on-dhcp = λ p. ap (λ (x : Guest). x .xid) g;
@@ -143,6 +139,7 @@ module _ (net : Network) (guest : Guest) (frame before after : List ℕ) (answer
       record {
         rest-untouched = rest;
         mac-kept = ap (λ (x : Guest). x .mac) g;
+        arp-or-ipv4 = λ n. s .0 .icmp .ipv4;
         arp-keeps-all = λ t. absurd (omega (arith, t, s .0 .icmp .ipv4));
         ipv4-takes-id = λ t. ap (λ (x : Guest). x .id) g;
         xid-kept-but-on-dhcp = λ p. ap (λ (x : Guest). x .xid) g;
@@ -155,9 +152,10 @@ module _ (net : Network) (guest : Guest) (frame before after : List ℕ) (answer
       record {
         rest-untouched = rest;
         mac-kept = ap (λ (x : Guest). x .mac) g;
-        arp-keeps-all = λ t. absurd (omega (arith, t, s .udp .ipv4));
+        arp-or-ipv4 = λ n. s .datagram .udp .ipv4;
+        arp-keeps-all = λ t. absurd (omega (arith, t, s .datagram .udp .ipv4));
         ipv4-takes-id = λ t. ap (λ (x : Guest). x .id) g;
-        xid-kept-but-on-dhcp = λ p. absurd (p (s .udp .carried));
+        xid-kept-but-on-dhcp = λ p. absurd (p (s .datagram .udp .carried));
         dhcp-takes-xid = λ t p. ap (λ (x : Guest). x .xid) g ∙ s .its-xid;
       })
       c
@@ -171,7 +169,7 @@ module _ (net : Network) (guest : Guest) (frame before after : List ℕ) (answer
   framed-returned : (next : Guest) (image : List ℕ) → replyAtAmpleRoom net guest frame ≡ image → Framed guest next image before after answer
       → Returned net guest frame before after (answer .verdict)
   framed-returned next image e (short r v g b) = told v (ap length (sym e), r)
-  framed-returned next image e (fits r v g b) = told v (ap length (sym e), r, ap (take (length image)) b ∙ take-append-seam image (drop (length image) before) ∙ sym e)
+  framed-returned next image e (fits p r v g b) = told v (p, ap length (sym e), r, ap (take (length image)) b ∙ take-append-seam image (drop (length image) before) ∙ sym e)
 
   returned-by : (d : Decision) → decision net frame ≡ d → Says net frame d → Came d → Returned net guest frame before after (answer .verdict)
   unfolding Came Says replyAtAmpleRoom
@@ -199,7 +197,7 @@ module _ (net : Network) (guest : Guest) (frame before after : List ℕ) (answer
   framed-by-room next image e (short r v g b) =
       let z = ap length e in
       record { none-if-short = λ h. v ∙ ap Verdict.NoRoom (sym z); reply-if-fits = λ p h. absurd (omega (arith, z, h, r)) }
-  framed-by-room next image e (fits r v g b) =
+  framed-by-room next image e (fits p r v g b) =
       let z = ap length e in
       record { none-if-short = λ h. absurd (omega (arith, z, h, r)); reply-if-fits = λ p h. v ∙ ap Verdict.Reply (sym z) }
 
@@ -216,7 +214,7 @@ module _ (net : Network) (guest : Guest) (frame before after : List ℕ) (answer
   by-room (TooLong len) e c = no-reply (ap (built net guest frame) e)
   by-room (CutType place) e c = no-reply (ap (built net guest frame) e)
 
--- The gateway's promise: for every network, record, frame and buffer, of whatever meets the contract of `handle`.
+-- The gateway's promise, for every frame and buffer, and every network and record whose arrays have the lengths that their types say.
 module _ (net : Network) (guest : Guest) (frame before after : List ℕ) (answer : Answer) (four : FourBytes net) (six : length (guest .mac) ≡ 6)
     (m : Meets (outcome net guest frame (length before)) before after answer) where
   it-came : Came net guest frame before after answer (decision net frame)
@@ -237,31 +235,31 @@ module _ (net : Network) (guest : Guest) (frame before after : List ℕ) (answer
       let same = paper-one-to-one (answer .verdict) v e in
       (subst (λ (x : Verdict). Changed frame x guest (answer .guest) before after) same only-what-is-named, subst (λ (x : Verdict). Returned net guest frame before after x) same returned-values)
 
-  -- 0 changes at most xid
-  pub on-zero : paper (answer .verdict) ≡ 0 ∷ [] → AtMostXid guest (answer .guest) before after
+  -- 0 changes at most xid, and that on a DHCP message alone
+  pub on-zero : paper (answer .verdict) ≡ 0 ∷ [] → AtMostXid frame guest (answer .guest) before after
   unfolding paper
   on-zero e = row Verdict.Drop e .0
 
   -- 1 with n: the reply's n bytes stand in the buffer's front; id on IPv4, xid on DHCP, and nothing else
   pub on-one : (n : ℕ) → paper (answer .verdict) ≡ 1 ∷ n ∷ []
       → ReplyBytesIdXid frame n guest (answer .guest) before after
-      × ((n ≡ length (replyAtAmpleRoom net guest frame)) × (n ≤ length before) × (take n after ≡ replyAtAmpleRoom net guest frame))
+      × ((0 < n) × (n ≡ length (replyAtAmpleRoom net guest frame)) × (n ≤ length before) × (take n after ≡ replyAtAmpleRoom net guest frame))
   unfolding paper
   on-one n e = row (Verdict.Reply n) e
 
-  -- 2 and 3 hand out a part of the frame that is the datagram's data, and change nothing
-  pub on-two : (start len : ℕ) → paper (answer .verdict) ≡ 2 ∷ start ∷ len ∷ [] → Unchanged guest (answer .guest) before after × Handed frame start len
+  -- 2 and 3 hand out the part of the frame that is the datagram's data, and change nothing
+  pub on-two : (start len : ℕ) → paper (answer .verdict) ≡ 2 ∷ start ∷ len ∷ [] → Unchanged guest (answer .guest) before after × Query net frame start len
   unfolding paper
-  on-two start len e = let r = row (Verdict.Dns start len) e in (r .0, r .1 .0)
+  on-two start len e = row (Verdict.Dns start len) e
 
-  pub on-three : (start len : ℕ) → paper (answer .verdict) ≡ 3 ∷ start ∷ len ∷ [] → Unchanged guest (answer .guest) before after × Handed frame start len
+  pub on-three : (start len : ℕ) → paper (answer .verdict) ≡ 3 ∷ start ∷ len ∷ [] → Unchanged guest (answer .guest) before after × Outbound net frame start len
   unfolding paper
   on-three start len e = row (Verdict.Relay start len) e
 
   -- 4 hands off the whole frame, and changes nothing
-  pub on-four : (n : ℕ) → paper (answer .verdict) ≡ 4 ∷ n ∷ [] → Unchanged guest (answer .guest) before after × (n ≡ length frame)
+  pub on-four : (n : ℕ) → paper (answer .verdict) ≡ 4 ∷ n ∷ [] → Unchanged guest (answer .guest) before after × Segment frame n
   unfolding paper
-  on-four n e = let r = row (Verdict.Tcp n) e in (r .0, r .1 .1)
+  on-four n e = row (Verdict.Tcp n) e
 
   -- 5 with n: the room is less than n, the reply's length at ample room, and nothing changes
   pub on-five : (n : ℕ) → paper (answer .verdict) ≡ 5 ∷ n ∷ []
@@ -269,17 +267,15 @@ module _ (net : Network) (guest : Guest) (frame before after : List ℕ) (answer
   unfolding paper
   on-five n e = row (Verdict.NoRoom n) e
 
-  -- 6 with n: a ping whose payload has n bytes, more than 65,515, and nothing changes
-  pub on-six : (n : ℕ) → paper (answer .verdict) ≡ 6 ∷ n ∷ []
-      → Unchanged guest (answer .guest) before after × (EchoAsked net frame × (n ≡ length (payload frame)) × (65515 < n))
+  -- 6 with n: a ping to the gateway whose payload has n bytes, more than 65,515, and nothing changes
+  pub on-six : (n : ℕ) → paper (answer .verdict) ≡ 6 ∷ n ∷ [] → Unchanged guest (answer .guest) before after × TooLongPing net frame n
   unfolding paper
   on-six n e = row (Verdict.TooLong n) e
 
-  -- 7 with the place at which the walk finds the message type cut off, and nothing changes
-  pub on-seven : (place : ℕ) → paper (answer .verdict) ≡ 7 ∷ place ∷ []
-      → Unchanged guest (answer .guest) before after × (walk (datagramData frame) ≡ cut place)
+  -- 7 with a place: a DHCP message whose type is cut off there, and nothing changes
+  pub on-seven : (place : ℕ) → paper (answer .verdict) ≡ 7 ∷ place ∷ [] → Unchanged guest (answer .guest) before after × CutMessage frame place
   unfolding paper
-  on-seven place e = let r = row (Verdict.CutType place) e in (r .0, r .1 .1)
+  on-seven place e = row (Verdict.CutType place) e
 
   -- and exactly so: a frame is to be built and the room is less than it: 5
   pub five-if-short : length before < length (replyAtAmpleRoom net guest frame) → paper (answer .verdict) ≡ 5 ∷ length (replyAtAmpleRoom net guest frame) ∷ []
@@ -292,10 +288,25 @@ module _ (net : Network) (guest : Guest) (frame before after : List ℕ) (answer
   unfolding paper
   one-if-room p r = ap paper (by-room net guest frame before after answer (decision net frame) refl it-came .reply-if-fits p r)
 
+  -- TCP: 4
+  pub four-if-tcp : Carries frame 6 → paper (answer .verdict) ≡ 4 ∷ length frame ∷ []
+  unfolding outcome outcomeOf
+  four-if-tcp c = (rw (tcp-decided net frame c) at m) .wrote .numbers
+
+  -- a ping within the length is to get its echo: 1 or 5, by the room
+  pub ping-is-to-be-answered : EchoAsked net frame → length (payload frame) ≤ 65515
+      → replyAtAmpleRoom net guest frame ≡ built net guest frame (EchoReply (payloadAt frame))
+  unfolding replyAtAmpleRoom
+  ping-is-to-be-answered a within = ap (built net guest frame) (echo-answered net frame a within)
+
   -- a ping past the length: 6, whatever the room, so before 5
   pub six-if-too-long : EchoAsked net frame → 65515 < length (payload frame) → paper (answer .verdict) ≡ 6 ∷ length (payload frame) ∷ []
   unfolding outcome outcomeOf
   six-if-too-long a over = (rw (too-long-decided net frame a over) at m) .wrote .numbers
+
+-- the hypotheses hold of document 01's network, and so of `handle`: its arrays have the lengths that their types say
+pub four-bytes : FourBytes network
+four-bytes = record { guest = refl; gateway = refl; mask = refl }
 
 -- the n of 5 is the n of the same call with room
 pub needed-is-n : (net : Network) (guest : Guest) (frame before after before′ after′ : List ℕ) (answer answer′ : Answer) (n : ℕ) → FourBytes net → length (guest .mac) ≡ 6

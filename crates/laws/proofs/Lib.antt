@@ -1,3 +1,4 @@
 pub mod MarkedHold
 pub mod Demand1
+pub mod Replies
 pub mod Isolation

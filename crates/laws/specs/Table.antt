@@ -3,21 +3,18 @@ use Prim.Native.Nat.{ℕ, _+_, _%_, _≤_, _<_}
 use mathlib.Core.Path.{_≡_}
 use mathlib.Core.List.{List, []}
 use lib.ListN.{length, take, drop}
-use Rattle.dhcp.specs.Rfc2132.{cut, walk}
-use Rattle.fields.specs.Rfc768.{targetPort}
-use Rattle.fields.specs.Rfc791.{protocolOf, sourceOf, targetOf}
-use Rattle.fields.specs.Rfc894.{body, sourceMac, typeOf}
+use Rattle.fields.specs.Rfc791.{protocolOf}
+use Rattle.fields.specs.Rfc894.{body, typeOf}
 use Rattle.fields.specs.Rfc2131.{transactionId}
-use Rattle.frames.specs.Rfc791.{ipFrame}
 use Rattle.frames.specs.declared.answer.Guest.{Guest}
 use Rattle.frames.specs.declared.answer.Verdict.{Verdict}
 use Rattle.frames.specs.declared.answer.Verdict.the-variants.{Drop, Reply, Dns, Relay, Tcp, NoRoom, TooLong, CutType}
 use Rattle.frames.specs.declared.network.Network.{Network}
-use Rattle.rules.specs.Rfc792.{echo}
+use Rattle.rules.specs.Rfc792.{echoFrame}
 use Rattle.rules.specs.Rfc826.{arpReply}
 use Rattle.rules.specs.Rfc2131.{dhcpFrame}
-use Rattle.rules.specs.Rules.{payload, datagramData, decision, noting}
-use Rattle.rules.specs.Seen.{Carries, Handed, EchoAsked}
+use Rattle.rules.specs.Rules.{datagramData, decision, noting}
+use Rattle.rules.specs.Seen.{Message, CutMessage, Query, Outbound, TooLongPing, Segment}
 use Rattle.rules.specs.declared.decision.Decision.{Decision}
 use Rattle.rules.specs.declared.decision.Decision.the-variants.{DropNoting, ArpReply, EchoReply, DhcpReply}
 use Rattle.rules.specs.declared.decision.Decision.the-variants as Decision
@@ -25,7 +22,7 @@ use Rattle.rules.specs.declared.decision.Decision.the-variants as Decision
 -- the frame that a decision builds; `[]` where it builds none
 abbrev pub built : Network → Guest → (frame : List ℕ) → Decision → List ℕ
 built net guest frame ArpReply = arpReply net frame
-built net guest frame (EchoReply start) = ipFrame (sourceMac frame) (guest .id) 1 (net .gateway) (sourceOf (body frame)) (echo (drop start frame))
+built net guest frame (EchoReply start) = echoFrame net guest frame start
 built net guest frame (DhcpReply xid type) = dhcpFrame net guest frame xid type
 built net guest frame Decision.Drop = []
 built net guest frame (DropNoting xid) = []
@@ -43,28 +40,33 @@ replyAtAmpleRoom net guest frame = built net guest frame (decision net frame)
 abbrev pub Returned : Network → Guest → (frame before after : List ℕ) → Verdict → Type 0
 Returned net guest frame before after Drop = Unit
 Returned net guest frame before after (Reply n) =
-    (n ≡ length (replyAtAmpleRoom net guest frame)) × (n ≤ length before) × (take n after ≡ replyAtAmpleRoom net guest frame)
-Returned net guest frame before after (Dns start len) = Handed frame start len × (targetOf (body frame) ≡ net .gateway) × (targetPort (payload frame) ≡ 53)
-Returned net guest frame before after (Relay start len) = Handed frame start len
-Returned net guest frame before after (Tcp len) = Carries frame 6 × (len ≡ length frame)
+    (0 < n) × (n ≡ length (replyAtAmpleRoom net guest frame)) × (n ≤ length before) × (take n after ≡ replyAtAmpleRoom net guest frame)
+Returned net guest frame before after (Dns start len) = Query net frame start len
+Returned net guest frame before after (Relay start len) = Outbound net frame start len
+Returned net guest frame before after (Tcp len) = Segment frame len
 Returned net guest frame before after (NoRoom needed) = (needed ≡ length (replyAtAmpleRoom net guest frame)) × (length before < needed)
-Returned net guest frame before after (TooLong len) = EchoAsked net frame × (len ≡ length (payload frame)) × (65515 < len)
-Returned net guest frame before after (CutType place) = Carries frame 17 × (walk (datagramData frame) ≡ cut place)
+Returned net guest frame before after (TooLong len) = TooLongPing net frame len
+Returned net guest frame before after (CutType place) = CutMessage frame place
 
 -- "nothing"
 pub record Unchanged (guest next : Guest) (before after : List ℕ) : Type 0 where
   pub kept : next ≡ guest
   pub untouched : after ≡ before
 
--- 0: "at most xid"
-pub record AtMostXid (guest next : Guest) (before after : List ℕ) : Type 0 where
-  pub kept-but-xid : next ≡ noting (next .xid) guest
+-- 0: "at most xid", and that of a DHCP message alone
+pub data XidAtMost (frame : List ℕ) (guest next : Guest) : Type 0 where
+  kept : next ≡ guest → XidAtMost frame guest next
+  noted : (xid : ℕ) → Message frame xid → next ≡ noting xid guest → XidAtMost frame guest next
+
+pub record AtMostXid (frame : List ℕ) (guest next : Guest) (before after : List ℕ) : Type 0 where
+  pub kept-but-xid : XidAtMost frame guest next
   pub untouched : after ≡ before
 
 -- 1: "first n reply bytes; id on IPv4; xid on DHCP"
 pub record ReplyBytesIdXid (frame : List ℕ) (n : ℕ) (guest next : Guest) (before after : List ℕ) : Type 0 where
   pub rest-untouched : drop n after ≡ drop n before
   pub mac-kept : next .mac ≡ guest .mac
+  pub arp-or-ipv4 : (typeOf frame ≡ 0x0806 → ⊥) → typeOf frame ≡ 0x0800
   pub arp-keeps-all : typeOf frame ≡ 0x0806 → next ≡ guest
   pub ipv4-takes-id : typeOf frame ≡ 0x0800 → next .id ≡ (guest .id + 1) % 65536
   pub xid-kept-but-on-dhcp : (protocolOf (body frame) ≡ 17 → ⊥) → next .xid ≡ guest .xid
@@ -72,7 +74,7 @@ pub record ReplyBytesIdXid (frame : List ℕ) (n : ℕ) (guest next : Guest) (be
 
 -- The column "Changed", row by row.
 abbrev pub Changed : (frame : List ℕ) → Verdict → (guest next : Guest) (before after : List ℕ) → Type 0
-Changed frame Drop guest next before after = AtMostXid guest next before after
+Changed frame Drop guest next before after = AtMostXid frame guest next before after
 Changed frame (Reply n) guest next before after = ReplyBytesIdXid frame n guest next before after
 Changed frame (Dns start len) guest next before after = Unchanged guest next before after
 Changed frame (Relay start len) guest next before after = Unchanged guest next before after

@@ -9,11 +9,11 @@ use lib.ListN.{length, getD}
 use Rattle.frames.proofs.Lists.{all-bytes}
 use Rattle.rules.specs.Same.{same}
 
-both-left : (x y : Bool) → (x && y) ≡ true → x ≡ true
+pub both-left : (x y : Bool) → (x && y) ≡ true → x ≡ true
 both-left true y e = refl
 both-left false y e = e
 
-both-right : (x y : Bool) → (x && y) ≡ true → y ≡ true
+pub both-right : (x y : Bool) → (x && y) ≡ true → y ≡ true
 both-right true y e = e
 both-right false y e = absurd (subst⁻¹ T e tt)
 

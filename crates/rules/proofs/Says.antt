@@ -1,6 +1,6 @@
--- What each decision says of its frame, and that a ping too long is always decided so.
-use Prim.Native.Nat.{ℕ, _+_, _-_, _≤_, _<_}
-use mathlib.Core.Path.{_≡_, refl, ap, subst⁻¹, _∙_}
+-- What each decision says of its frame, by going through the tests once; and that a ping, too long or not, and a TCP frame are always decided as such.
+use Prim.Native.Nat.{ℕ, _≤_, _<_}
+use mathlib.Core.Path.{_≡_, refl, ap, subst, subst⁻¹, _∙_}
 use mathlib.Core.Bool.{Bool, true, false, not, _&&_}
 use mathlib.Core.List.{List}
 use native.Mathlib.Omega.{arith}
@@ -19,10 +19,10 @@ use Rattle.frames.specs.Pick.{pick}
 use Rattle.frames.specs.declared.network.Network.{Network}
 use Rattle.rules.specs.Rules.{payloadAt, payload, dataAt, dataLength, datagramData, decision, arpDecision, ipDecision, icmpDecision, udpDecision, dhcpDecision, typeDecision}
 use Rattle.rules.specs.Same.{same}
-use Rattle.rules.specs.Seen.{Carries, Message, Handed, EchoAsked}
+use Rattle.rules.specs.Seen.{Carries, Datagram, Message, CutMessage, Handed, Query, Outbound, EchoAsked, TooLongPing, Segment}
 use Rattle.rules.specs.declared.decision.Decision.{Decision}
 use Rattle.rules.specs.declared.decision.Decision.the-variants.{Drop, DropNoting, ArpReply, EchoReply, DhcpReply, Dns, Relay, Tcp, TooLong, CutType}
-use Rattle.rules.proofs.Same.{same-equal, equal-same}
+use Rattle.rules.proofs.Same.{both-left, both-right, same-equal, equal-same}
 
 unfoldable pub Says : Network → (frame : List ℕ) → Decision → Type 0
 Says net frame Drop = Unit
@@ -30,11 +30,11 @@ Says net frame (DropNoting xid) = Message frame xid
 Says net frame ArpReply = (typeOf frame ≡ 0x0806) × (42 ≤ length frame)
 Says net frame (EchoReply start) = EchoAsked net frame × (start ≡ payloadAt frame) × (length (payload frame) ≤ 65515)
 Says net frame (DhcpReply xid type) = Message frame xid
-Says net frame (Dns start len) = Handed frame start len × (targetOf (body frame) ≡ net .gateway) × (targetPort (payload frame) ≡ 53)
-Says net frame (Relay start len) = Handed frame start len
-Says net frame (Tcp len) = Carries frame 6 × (len ≡ length frame)
-Says net frame (TooLong len) = EchoAsked net frame × (len ≡ length (payload frame)) × (65515 < len)
-Says net frame (CutType place) = Carries frame 17 × (walk (datagramData frame) ≡ cut place)
+Says net frame (Dns start len) = Query net frame start len
+Says net frame (Relay start len) = Outbound net frame start len
+Says net frame (Tcp len) = Segment frame len
+Says net frame (TooLong len) = TooLongPing net frame len
+Says net frame (CutType place) = CutMessage frame place
 
 module _ (net : Network) (frame : List ℕ) where
   nothing : Says net frame Drop
@@ -57,34 +57,35 @@ module _ (net : Network) (frame : List ℕ) where
   unfolding Says
   pinged r within = (r, refl, within)
 
-  too-long : EchoAsked net frame → 65515 < length (payload frame) → Says net frame (TooLong (length (payload frame)))
+  too-long : (len : ℕ) → TooLongPing net frame len → Says net frame (TooLong len)
   unfolding Says
-  too-long r over = (r, refl, over)
+  too-long len p = p
 
-  named : (start len : ℕ) → Handed frame start len → targetOf (body frame) ≡ net .gateway → targetPort (payload frame) ≡ 53 → Says net frame (Dns start len)
+  named : (start len : ℕ) → Query net frame start len → Says net frame (Dns start len)
   unfolding Says
-  named start len h t p = (h, t, p)
+  named start len q = q
 
-  sent : (start len : ℕ) → Handed frame start len → Says net frame (Relay start len)
+  sent : (start len : ℕ) → Outbound net frame start len → Says net frame (Relay start len)
   unfolding Says
-  sent start len h = h
+  sent start len o = o
 
-  segment : Carries frame 6 → Says net frame (Tcp (length frame))
+  segment : (len : ℕ) → Segment frame len → Says net frame (Tcp len)
   unfolding Says
-  segment c = (c, refl)
+  segment len s = s
 
-  cut-off : (place : ℕ) → Carries frame 17 → walk (datagramData frame) ≡ cut place → Says net frame (CutType place)
+  cut-off : (place : ℕ) → CutMessage frame place → Says net frame (CutType place)
   unfolding Says
-  cut-off place c e = (c, e)
+  cut-off place c = c
 
 -- what holds in both cases of a test holds
 either : (P : Decision → Type 0) (t : Bool) (a b : Decision) → (t ≡ true → P a) → (t ≡ false → P b) → P (pick t a b)
 either P true a b f g = f refl
 either P false a b f g = g refl
 
-both-true : (x y : Bool) → (x && y) ≡ true → (x ≡ true) × (y ≡ true)
-both-true true y e = (refl, e)
-both-true false y e = absurd (subst⁻¹ T e tt)
+not-both : (x y : Bool) → (x && y) ≡ false → x ≡ true → y ≡ true → ⊥
+not-both true true e p q = subst T e tt
+not-both true false e p q = subst⁻¹ T q tt
+not-both false y e p q = subst⁻¹ T p tt
 
 module _ (net : Network) (frame : List ℕ) where
   arp-says : typeOf frame ≡ 0x0806 → Says net frame (arpDecision net frame)
@@ -111,46 +112,61 @@ module _ (net : Network) (frame : List ℕ) where
         request = eqb-true (messageType (payload frame)) 8 (not-false _ type);
       } in
       either (Says net frame) (ltb 65515 (length (payload frame))) _ _
-      (λ over. too-long net frame r (ltb-true 65515 (length (payload frame)) over))
+      (λ over. too-long net frame _ (record { asked = r; its-length = refl; over = ltb-true 65515 (length (payload frame)) over }))
       (λ within. pinged net frame r (ltb-false 65515 (length (payload frame)) within))))))
 
-  type-says : Message frame (Dhcp.transactionId (datagramData frame)) → (w : Walked) → walk (datagramData frame) ≡ w
+  type-says : Message frame (Dhcp.transactionId (datagramData frame)) → Dhcp.magicCookie (datagramData frame) ≡ 0x63825363 → (w : Walked) → walk (datagramData frame) ≡ w
       → Says net frame (typeDecision (Dhcp.transactionId (datagramData frame)) w)
-  type-says m (typed type) e = either (Says net frame) (eqb (answering type) 0) _ _ (λ f. noted net frame _ m) (λ f. answered net frame _ _ m)
-  type-says m (cut place) e = cut-off net frame place (m .udp) e
+  type-says m c (typed type) e = either (Says net frame) (eqb (answering type) 0) _ _ (λ f. noted net frame _ m) (λ f. answered net frame _ _ m)
+  type-says m c (cut place) e = cut-off net frame place (record { message = m; cookie = c; cut-off = e })
 
-  dhcp-says : Carries frame 17 → Says net frame (dhcpDecision (datagramData frame))
+  dhcp-says : Datagram frame → sourcePort (payload frame) ≡ 68 → targetPort (payload frame) ≡ 67 → Says net frame (dhcpDecision (datagramData frame))
   unfolding dhcpDecision
-  dhcp-says udp =
+  dhcp-says datagram from to =
       either (Says net frame) (ltb (length (datagramData frame)) 240) _ _ (λ e. nothing net frame) (λ short.
       either (Says net frame) (not (eqb (Dhcp.operation (datagramData frame)) 1)) _ _ (λ e. nothing net frame) (λ client.
       let m : Message frame (Dhcp.transactionId (datagramData frame)) =
       record {
-        udp = udp;
+        datagram = datagram;
+        from-68 = from;
+        to-67 = to;
         fixed = ltb-false (length (datagramData frame)) 240 short;
         from-client = eqb-true (Dhcp.operation (datagramData frame)) 1 (not-false _ client);
         its-xid = refl;
       } in
-      either (Says net frame) (not (eqb (Dhcp.magicCookie (datagramData frame)) 0x63825363)) _ _ (λ e. noted net frame _ m) (λ g.
-      type-says m (walk (datagramData frame)) refl)))
+      either (Says net frame) (not (eqb (Dhcp.magicCookie (datagramData frame)) 0x63825363)) _ _ (λ e. noted net frame _ m) (λ cookie.
+      type-says m (eqb-true (Dhcp.magicCookie (datagramData frame)) 0x63825363 (not-false _ cookie)) (walk (datagramData frame)) refl)))
 
   udp-says : Carries frame 17 → Says net frame (udpDecision net frame)
   unfolding udpDecision
   udp-says udp =
-      let cut = length-drop (payloadAt frame) frame in
+      let s = sourcePort (payload frame) in
+      let t = targetPort (payload frame) in
+      let ours = same (targetOf (body frame)) (net .gateway) in
       either (Says net frame) (ltb (length frame) (payloadAt frame)) _ _ (λ e. nothing net frame) (λ past.
       either (Says net frame) (ltb (length (payload frame)) 8) _ _ (λ e. nothing net frame) (λ short.
       either (Says net frame) (ltb (lengthField (payload frame)) 8) _ _ (λ e. nothing net frame) (λ small.
-      let there = ltb-false (length frame) (payloadAt frame) past in
-      let eight = ltb-false (length (payload frame)) 8 short in
-      let handed : Handed frame (dataAt frame) (dataLength frame) =
-      record { udp = udp; inside = omega (arith, cut, no-longer (length (payload frame)) (lengthField (payload frame)), there, eight); its-data = refl } in
-      either (Says net frame) (eqb (sourcePort (payload frame)) 68 && eqb (targetPort (payload frame)) 67) _ _ (λ e. dhcp-says udp) (λ e.
-      either (Says net frame) (same (targetOf (body frame)) (net .gateway) && eqb (targetPort (payload frame)) 53) _ _
+      let d : Datagram frame =
+      record {
+        udp = udp;
+        there = ltb-false (length frame) (payloadAt frame) past;
+        whole = ltb-false (length (payload frame)) 8 short;
+        stated = ltb-false (lengthField (payload frame)) 8 small;
+      } in
+      either (Says net frame) (eqb s 68 && eqb t 67) _ _
+      (λ e. dhcp-says d (eqb-true s 68 (both-left (eqb s 68) (eqb t 67) e)) (eqb-true t 67 (both-right (eqb s 68) (eqb t 67) e)))
+      (λ other.
+      either (Says net frame) (ours && eqb t 53) _ _
       (λ e.
-      let b = both-true (same (targetOf (body frame)) (net .gateway)) (eqb (targetPort (payload frame)) 53) e in
-      named net frame _ _ handed (same-equal _ _ (b .0)) (eqb-true (targetPort (payload frame)) 53 (b .1)))
-      (λ e. sent net frame _ _ handed)))))
+      named net frame _ _
+      (record { handed = handed d; to-gateway = same-equal _ _ (both-left ours (eqb t 53) e); to-53 = eqb-true t 53 (both-right ours (eqb t 53) e) }))
+      (λ e.
+      sent net frame _ _
+      (record {
+        handed = handed d;
+        no-dhcp = λ p q. not-both (eqb s 68) (eqb t 67) other (eq-eqb s 68 p) (eq-eqb t 67 q);
+        no-query = λ p q. not-both ours (eqb t 53) e (ap (λ (l : List ℕ). same l (net .gateway)) p ∙ equal-same (net .gateway)) (eq-eqb t 53 q);
+      }))))))
     where
       no-longer : (l f : ℕ) → pick (ltb l f) l f ≤ l
       no-longer l f = go (ltb l f) refl
@@ -159,6 +175,16 @@ module _ (net : Network) (frame : List ℕ) where
           go true e = omega arith
           go false e = ltb-false l f e
 
+      handed : Datagram frame → Handed frame (dataAt frame) (dataLength frame)
+      handed d =
+          record {
+            datagram = d;
+            starts = refl;
+            ends = refl;
+            inside = omega (arith, length-drop (payloadAt frame) frame, no-longer (length (payload frame)) (lengthField (payload frame)), d .there, d .whole);
+            its-data = refl;
+          }
+
   ip-says : typeOf frame ≡ 0x0800 → Says net frame (ipDecision net frame)
   unfolding ipDecision
   ip-says t =
@@ -166,7 +192,7 @@ module _ (net : Network) (frame : List ℕ) where
       λ protocol short p. record { long = ltb-false (length frame) 34 short; ipv4 = t; carried = eqb-true (protocolOf (body frame)) protocol p } in
       either (Says net frame) (ltb (length frame) 34) _ _ (λ e. nothing net frame) (λ short.
       either (Says net frame) (eqb (protocolOf (body frame)) 1) _ _ (λ p. icmp-says (carries 1 short p)) (λ e.
-      either (Says net frame) (eqb (protocolOf (body frame)) 6) _ _ (λ p. segment net frame (carries 6 short p)) (λ f.
+      either (Says net frame) (eqb (protocolOf (body frame)) 6) _ _ (λ p. segment net frame _ (record { tcp = carries 6 short p; its-length = refl })) (λ f.
       either (Says net frame) (eqb (protocolOf (body frame)) 17) _ _ (λ p. udp-says (carries 17 short p)) (λ g. nothing net frame))))
 
   pub says : Says net frame (decision net frame)
@@ -192,6 +218,19 @@ module _ (net : Network) (frame : List ℕ) where
         le-ltb (length frame) (payloadAt frame) (a .there),
         le-ltb (length (payload frame)) 8 (a .whole),
         eq-eqb (messageType (payload frame)) 8 (a .request),
+      )
+
+  -- a TCP frame is decided so
+  pub tcp-decided : Carries frame 6 → decision net frame ≡ Tcp (length frame)
+  unfolding decision ipDecision
+  tcp-decided c =
+      simp (
+        le-ltb (length frame) 14 (omega (arith, c .long)),
+        ne-eqb (typeOf frame) 0x0806 (λ e. omega (arith, e, c .ipv4)),
+        eq-eqb (typeOf frame) 0x0800 (c .ipv4),
+        le-ltb (length frame) 34 (c .long),
+        ne-eqb (protocolOf (body frame)) 1 (λ e. omega (arith, e, c .carried)),
+        eq-eqb (protocolOf (body frame)) 6 (c .carried),
       )
 
   -- a ping too long is decided so

@@ -1,7 +1,7 @@
 -- Document 01's "Order of tests on a guest frame", test by test in its order, and what comes of each decision: the verdict, the bytes and
 -- the record, for every frame, record, room and network.
 use Prim.Native.Nat.{ℕ, _+_, _-_}
-use mathlib.Core.Bool.{Bool, _&&_, not}
+use mathlib.Core.Bool.{_&&_, not}
 use mathlib.Core.List.{List, [], _∷_}
 use lib.Dec.{eqb, ltb}
 use lib.ListN.{length, drop}
@@ -9,17 +9,16 @@ use Rattle.dhcp.specs.Rfc2131.{answering}
 use Rattle.dhcp.specs.Rfc2132.{Walked, typed, cut, walk}
 use Rattle.fields.specs.Bytes.{part}
 use Rattle.fields.specs.Rfc768.{sourcePort, targetPort, lengthField}
-use Rattle.fields.specs.Rfc791.{headerLength, protocolOf, sourceOf, targetOf}
+use Rattle.fields.specs.Rfc791.{headerLength, protocolOf, targetOf}
 use Rattle.fields.specs.Rfc792.{messageType}
 use Rattle.fields.specs.Rfc826 as Arp
-use Rattle.fields.specs.Rfc894.{body, sourceMac, typeOf}
+use Rattle.fields.specs.Rfc894.{body, typeOf}
 use Rattle.fields.specs.Rfc2131 as Dhcp
 use Rattle.frames.specs.Answer.{Outcome, fitting, spent}
 use Rattle.frames.specs.Pick.{pick}
-use Rattle.frames.specs.Rfc791.{ipFrame}
 use Rattle.frames.specs.declared.answer.Guest.{Guest}
 use Rattle.frames.specs.declared.network.Network.{Network}
-use Rattle.rules.specs.Rfc792.{echo}
+use Rattle.rules.specs.Rfc792.{echoFrame}
 use Rattle.rules.specs.Rfc826.{arpReply}
 use Rattle.rules.specs.Rfc2131.{dhcpFrame}
 use Rattle.rules.specs.Same.{same}
@@ -54,7 +53,7 @@ arpDecision net frame =
     (pick (not (same (Arp.soughtAddress (body frame)) (net .gateway))) Drop
     ArpReply))
 
--- "ICMP: target not the gateway: drop. Payload start past the frame: drop. Payload under 8, or first byte not 8: drop. Payload over 65,515: 6. Else echo"
+-- "ICMP: target not the gateway: drop. Payload start past the frame: drop (the Rust panics). Payload under 8, or first byte not 8: drop. Payload over 65,515: 6. Else echo"
 unfoldable pub icmpDecision : Network → (frame : List ℕ) → Decision
 icmpDecision net frame =
     pick (not (same (targetOf (body frame)) (net .gateway))) Drop
@@ -80,7 +79,7 @@ dhcpDecision message =
 -- "Source 68 and destination 67: DHCP, for any target address. Else target gateway and destination 53: DNS. Else relay."
 unfoldable pub udpDecision : Network → (frame : List ℕ) → Decision
 udpDecision net frame =
-    pick (ltb (length frame) (payloadAt frame)) Drop  -- "UDP: payload start past the frame: drop"
+    pick (ltb (length frame) (payloadAt frame)) Drop  -- "UDP: payload start past the frame: drop (Rust panics)"
     (pick (ltb (length (payload frame)) 8) Drop  -- "Payload under 8
     (pick (ltb (lengthField (payload frame)) 8) Drop  -- or length field under 8: drop"
     (pick (eqb (sourcePort (payload frame)) 68 && eqb (targetPort (payload frame)) 67) (dhcpDecision (datagramData frame))
@@ -122,8 +121,7 @@ outcomeOf net guest frame room Drop = unwritten (0 ∷ []) guest
 outcomeOf net guest frame room (DropNoting xid) = unwritten (0 ∷ []) (noting xid guest)
 outcomeOf net guest frame room ArpReply = framing guest guest 42 room (arpReply net frame)
 outcomeOf net guest frame room (EchoReply start) =
-    framing guest (spent guest) (34 + length (drop start frame)) room
-    (ipFrame (sourceMac frame) (guest .id) 1 (net .gateway) (sourceOf (body frame)) (echo (drop start frame)))
+    framing guest (spent guest) (34 + length (drop start frame)) room (echoFrame net guest frame start)
 outcomeOf net guest frame room (DhcpReply xid type) = framing guest (spent (noting xid guest)) 342 room (dhcpFrame net guest frame xid type)
 outcomeOf net guest frame room (Dns start len) = unwritten (2 ∷ start ∷ len ∷ []) guest
 outcomeOf net guest frame room (Relay start len) = unwritten (3 ∷ start ∷ len ∷ []) guest

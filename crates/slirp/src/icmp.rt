@@ -1,13 +1,10 @@
-// ICMP: a ping is answered in place.
+// ICMP: a ping is answered where the reply goes, with one copy of its bytes.
 ghost use mathlib.Core.Path.{_≡_};
 ghost use Prim.Native.Nat.{_+_, _≤_};
 ghost use lib.ListN.{length, drop};
-ghost use Rattle.fields.specs.Rfc791.{sourceOf};
-ghost use Rattle.fields.specs.Rfc894.{body, sourceMac};
 ghost use Rattle.frames.specs.Answer.{Meets, spent};
 ghost use Rattle.frames.specs.Buffer.{put as Buffer·put};
-ghost use Rattle.frames.specs.Rfc791.{ipFrame};
-ghost use Rattle.rules.specs.Rfc792.{echo};
+ghost use Rattle.rules.specs.Rfc792.{echo, echoFrame};
 ghost use Rattle.rules.specs.Rules.{framing};
 use crate::answers::no_room;
 use fields::eth_src;
@@ -40,7 +37,7 @@ pub fn handle_icmp(
     requires { ⌜ length (now frame) ≤ start + 65515 ⌝ }
     ensures { λ r. ⌜ Meets
         (framing guest (spent guest) (34 + length (drop start (now (frame .entry)))) (length (now (reply .entry)))
-        (ipFrame (sourceMac (now (frame .entry))) (guest .id) 1 (net .gateway) (sourceOf (body (now (frame .entry)))) (echo (drop start (now (frame .entry))))))
+        (echoFrame net guest (now (frame .entry)) start))
         (now (reply .entry)) (now (reply .exit)) r ⌝ }
 {
     let len = payload_length(frame, start);
