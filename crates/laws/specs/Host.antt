@@ -3,34 +3,27 @@ use Prim.Native.Nat.{ℕ}
 use mathlib.Core.Path.{_≡_}
 use mathlib.Core.List.{List, [], _∷_}
 use lib.Dec.{eqb}
-use lib.ListN.{length}
+use lib.ListN.{length, take}
 use Rattle.frames.specs.Answer.{Meets}
 use Rattle.frames.specs.Pick.{pick}
 use Rattle.frames.specs.declared.answer.Answer.{Answer}
 use Rattle.frames.specs.declared.answer.Guest.{Guest}
+use Rattle.frames.specs.declared.answer.Verdict.{Verdict}
+use Rattle.frames.specs.declared.answer.Verdict.the-variants.{Drop, Reply, Dns, Relay, Tcp, NoRoom, TooLong, CutType}
 use Rattle.frames.specs.declared.network.Network.{Network}
 use Rattle.rules.specs.Rules.{outcome}
 
--- what a call is handed: a frame and a buffer
-pub record Asked : Type 0 where
-  pub frame : List ℕ
-  pub buffer : List ℕ
-
--- what comes of it: the answer, and the buffer afterwards
-pub record Got : Type 0 where
-  pub answer : Answer
-  pub buffer : List ℕ
-
--- a call of one guest
+-- A call: whose it is, the frame, the buffer that is lent, whatever it holds, and the answer with the buffer afterwards.
 pub record Call : Type 0 where
   pub who : ℕ
-  pub asked : Asked
-  pub got : Got
+  pub frame : List ℕ
+  pub before : List ℕ
+  pub answer : Answer
+  pub after : List ℕ
 
--- the call was answered as the contract of `handle` says, from this record
+-- The call was answered as the contract of `handle_on` says, from this record. (For every record, frame and buffer there is such an answer: `handle_on`'s.)
 abbrev pub Answered : Network → Guest → Call → Type 0
-Answered net guest call =
-    Meets (outcome net guest (call .asked .frame) (length (call .asked .buffer))) (call .asked .buffer) (call .got .buffer) (call .got .answer)
+Answered net guest call = Meets (outcome net guest (call .frame) (length (call .before))) (call .before) (call .after) (call .answer)
 
 -- the records of all guests
 abbrev pub Host : Type 0
@@ -43,23 +36,43 @@ storing host who guest other = pick (eqb who other) guest (host other)
 -- Calls one after the other, of any guests in any order: each is answered from its guest's record, and the record answered is kept.
 abbrev pub Serves : Network → Host → List Call → Host → Type 0
 Serves net host [] host′ = (guest : ℕ) → host′ guest ≡ host guest
-Serves net host (call ∷ rest) host′ = Answered net (host (call .who)) call × Serves net (storing host (call .who) (call .got .answer .guest)) rest host′
+Serves net host (call ∷ rest) host′ = Answered net (host (call .who)) call × Serves net (storing host (call .who) (call .answer .guest)) rest host′
 
 -- The same where there is one guest alone.
 abbrev pub ServesAlone : Network → Guest → List Call → Guest → Type 0
 ServesAlone net guest [] guest′ = guest′ ≡ guest
-ServesAlone net guest (call ∷ rest) guest′ = Answered net guest call × ServesAlone net (call .got .answer .guest) rest guest′
+ServesAlone net guest (call ∷ rest) guest′ = Answered net guest call × ServesAlone net (call .answer .guest) rest guest′
 
 -- the calls of one guest
 abbrev pub callsOf : (who : ℕ) → List Call → List Call
 callsOf who [] = []
 callsOf who (call ∷ rest) = pick (eqb (call .who) who) (call ∷ callsOf who rest) (callsOf who rest)
 
--- what calls are handed, and what comes of them
+-- what a guest hands in: its frame; and the room that the host gives it
+pub record Asked : Type 0 where
+  pub frame : List ℕ
+  pub room : ℕ
+
 abbrev pub asks : List Call → List Asked
 asks [] = []
-asks (call ∷ rest) = call .asked ∷ asks rest
+asks (call ∷ rest) = record { frame = call .frame; room = length (call .before) } ∷ asks rest
+
+-- the bytes that go to the guest: on a reply the first n of the buffer
+abbrev pub sent : Verdict → (buffer : List ℕ) → List ℕ
+sent (Reply n) buffer = take n buffer
+sent Drop buffer = []
+sent (Dns start len) buffer = []
+sent (Relay start len) buffer = []
+sent (Tcp len) buffer = []
+sent (NoRoom needed) buffer = []
+sent (TooLong len) buffer = []
+sent (CutType place) buffer = []
+
+-- what it gets: the answer, and the reply's bytes
+pub record Got : Type 0 where
+  pub answer : Answer
+  pub reply : List ℕ
 
 abbrev pub gets : List Call → List Got
 gets [] = []
-gets (call ∷ rest) = call .got ∷ gets rest
+gets (call ∷ rest) = record { answer = call .answer; reply = sent (call .answer .verdict) (call .after) } ∷ gets rest
