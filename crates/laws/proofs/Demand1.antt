@@ -26,7 +26,7 @@ use Rattle.rules.specs.declared.decision.Decision.the-variants.{Drop, DropNotin
 use Rattle.rules.proofs.Says.{Says, says, tcp-decided, echo-answered, too-long-decided}
 use Rattle.slirp.proofs.Echo.{length-echo}
 use Rattle.slirp.proofs.ReadBack.{arp-reads-back, echo-frame-reads-back, dhcp-reads-back}
-use Rattle.laws.specs.Table.{built, replyAtAmpleRoom, Returned, Unchanged, XidAtMost, kept, noted, AtMostXid, ReplyBytesIdXid, Changed}
+use Rattle.laws.specs.Table.{built, replyAtAmpleRoom, Returned, Unchanged, kept, noted, AtMostXid, ReplyBytesIdXid, Changed}
 
 -- every answer has a number, and it is one of 0 to 7 (where there were none, this would read 8)
 pub numbered : (v : Verdict) → getD (paper v) 0 8 ≤ 7

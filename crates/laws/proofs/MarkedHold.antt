@@ -1,7 +1,14 @@
 -- Every row of the table of marked cases holds, by computation, and so do the cases that are not marked.
-use mathlib.Core.Path.{refl}
+use Prim.Native.Nat.{ℕ}
+use mathlib.Core.Path.{_≡_, refl, subst}
+use mathlib.Core.List.{List, _++_}
+use lib.ListN.{length, drop}
 use Rattle.dhcp.specs.Rfc2131.{reply}
 use Rattle.dhcp.specs.Rfc2132.{walk, walkFrom}
+use Rattle.frames.specs.Answer.{Meets, Outcome, paper}
+use Rattle.frames.specs.Network.{network}
+use Rattle.frames.specs.declared.answer.Answer.{Answer}
+use Rattle.frames.specs.declared.answer.Guest.{Guest}
 use Rattle.frames.specs.Rfc768.{datagram}
 use Rattle.frames.specs.Rfc791.{header, headerWith, ipFrame}
 use Rattle.rules.specs.Rfc792.{echo, echoWith}
@@ -9,7 +16,7 @@ use Rattle.rules.specs.Rfc826.{replyTo}
 use Rattle.rules.specs.Rfc2131.{dhcpFrame}
 use Rattle.rules.specs.Rules.{decision, arpDecision, ipDecision, icmpDecision, udpDecision, dhcpDecision, framing, outcomeOf, outcome}
 use Rattle.sums.specs.Rfc1071.{words, sum, total, fold, checksum}
-use Rattle.laws.specs.Marked.{All, marked, unmarked, longPing}
+use Rattle.laws.specs.Marked.{Holds, All, call, marked, unmarked, longPing}
 
 pub marked-hold : All marked
 unfolding checksum total words sum fold header headerWith ipFrame datagram walk walkFrom reply echo echoWith replyTo dhcpFrame decision arpDecision ipDecision icmpDecision udpDecision dhcpDecision framing outcomeOf outcome
@@ -22,3 +29,11 @@ unmarked-hold = (refl, (refl, (refl, (refl, (refl, tt)))))
 pub long-ping : longPing
 unfolding decision ipDecision icmpDecision framing outcomeOf outcome
 long-ping = (refl, refl)
+
+-- and so whatever meets the contract of `handle` on a row's input has answered the row
+pub answered-as-in-the-row : (frame : List ℕ) (guest : Guest) (numbers bytes : List ℕ) (next : Guest) (before after : List ℕ) (answer : Answer)
+    → Holds (call frame guest (length before) numbers bytes next) → Meets (outcome network guest frame (length before)) before after answer
+    → (paper (answer .verdict) ≡ numbers) × (after ≡ bytes ++ drop (length bytes) before) × (answer .guest ≡ next)
+answered-as-in-the-row frame guest numbers bytes next before after answer e m =
+    let m′ = subst (λ (o : Outcome). Meets o before after answer) e m in
+    (m′ .wrote .numbers, m′ .wrote .bytes, m′ .guest)

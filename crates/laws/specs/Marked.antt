@@ -1,10 +1,11 @@
--- The marked cases of document 01 ("Bytes to check"), in one table, and what it means that a row holds; behind them the cases that are not marked. The replies' bytes are the published Rust's.
+-- The marked cases of document 01 ("Bytes to check"), in one table, and what it means that a row holds; behind them the cases that are not marked. The replies' bytes were taken from the published Rust;
+-- `replay` has the same calls among its lines. A row is about the definitions that the contract of `handle` cites; that an answer is the row's follows (`answered-as-in-the-row`).
 use Prim.Native.Nat.{ℕ, _+_, _-_}
 use mathlib.Core.Path.{_≡_}
 use mathlib.Core.List.{List, [], _∷_, _++_}
 use lib.ListN.{length, take, replicate}
 use Rattle.fields.specs.Bytes.{be16}
-use Rattle.frames.specs.Answer.{Outcome, fresh}
+use Rattle.frames.specs.Answer.{fresh}
 use Rattle.frames.specs.Network.{network}
 use Rattle.frames.specs.declared.answer.Guest.{Guest}
 use Rattle.rules.specs.Rules.{outcome}

@@ -14,9 +14,8 @@ use Rattle.fields.specs.Rfc791.{targetOf}
 use Rattle.fields.specs.Rfc894.{body}
 use Rattle.frames.specs.Pick.{pick}
 use Rattle.frames.specs.declared.network.Network.{Network}
-use Rattle.rules.specs.Rules.{payloadAt, payload, dataAt, dataLength, dataEnd, udpDecision, dhcpDecision}
+use Rattle.rules.specs.Rules.{payloadAt, payload, dataAt, dataLength, udpDecision, dhcpDecision}
 use Rattle.rules.specs.Same.{same}
-use Rattle.rules.specs.declared.decision.Decision.{Decision}
 use Rattle.rules.specs.declared.decision.Decision.the-variants.{Drop, Dns, Relay}
 
 -- the smaller of two numbers less `n` is the smaller of both, less `n`

@@ -15,7 +15,6 @@ use Rattle.fields.specs.Rfc894.{body}
 use Rattle.frames.specs.declared.network.Network.{Network}
 use Rattle.rules.specs.Rules.{payloadAt, payload, icmpDecision}
 use Rattle.rules.specs.Same.{same}
-use Rattle.rules.specs.declared.decision.Decision.{Decision}
 use Rattle.rules.specs.declared.decision.Decision.the-variants.{Drop, TooLong, EchoReply}
 
 module _ (net : Network) (frame : List ℕ) where

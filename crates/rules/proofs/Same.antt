@@ -1,6 +1,6 @@
 -- `same` is equality of byte lists, and four bytes are compared one by one.
 use Prim.Native.Nat.{ℕ}
-use mathlib.Core.Path.{_≡_, refl, ap₂, sym, subst⁻¹, _∙_}
+use mathlib.Core.Path.{_≡_, refl, ap₂, sym, subst⁻¹}
 use mathlib.Core.Bool.{Bool, true, false, _&&_}
 use mathlib.Core.List.{List, [], _∷_}
 use borrow.Author.Tests.{eq-eqb, ne-eqb, eqb-true}

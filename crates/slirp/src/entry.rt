@@ -1,5 +1,4 @@
 // The entry: one call for one frame.
-ghost use mathlib.Core.Path.{_≡_};
 ghost use lib.ListN.{length};
 ghost use Rattle.frames.specs.Answer.{Meets};
 ghost use Rattle.frames.specs.Network.{network};

@@ -1,16 +1,14 @@
 -- `decision::decide_udp` meets its contract: its tests are those of `Datagram`.
 use Prim.Native.Nat.{ℕ, _+_, _-_, _≤_}
 use mathlib.Core.Path.{_≡_, sym, ap, ap₂, _∙_}
-use mathlib.Core.Bool.{true, false, _&&_}
+use mathlib.Core.Bool.{_&&_}
 use mathlib.Core.List.{List}
 use native.Mathlib.Omega.{arith}
 use lib.Dec.{eqb, ltb}
 use lib.ListN.{length}
 use Rattle.fields.specs.Bytes.{u16At, part}
-use Rattle.fields.specs.Rfc791.{targetOf}
-use Rattle.fields.specs.Rfc894.{body}
 use Rattle.frames.specs.Pick.{pick}
-use Rattle.rules.specs.Rules.{payloadAt, dataAt, dhcpDecision}
+use Rattle.rules.specs.Rules.{payloadAt, dhcpDecision}
 use Rattle.rules.specs.Same.{same}
 use Rattle.rules.specs.declared.decision.Decision.the-variants.{Dns, Relay}
 use Rattle.rules.proofs.Datagram.{udp-past, udp-short, udp-stated, udp-dhcp, udp-dns, udp-relay}

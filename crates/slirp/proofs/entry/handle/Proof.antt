@@ -1,9 +1,4 @@
 -- `entry::handle` meets its contract: document 01's network.
-use mathlib.Core.Path.{subst}
-use lib.ListN.{length}
-use Rattle.frames.specs.Answer.{Meets}
-use Rattle.frames.specs.declared.network.Network.{Network}
-use Rattle.rules.specs.Rules.{outcome}
 use borrow.Author.Needs.{needs}
 use Rattle.slirp.proofs.entry.handle.Statement.{statement}
 use Rattle.slirp.proofs.entry.handle.Tie as tie

@@ -1,7 +1,6 @@
 -- `entry::handle_on` meets its contract, decision by decision.
 use mathlib.Core.Path.{refl, sym, ap, _∙_}
 use Rattle.frames.specs.Answer.{paper}
-use Rattle.frames.specs.declared.answer.Answer.{Answer}
 use Rattle.frames.specs.declared.answer.Guest.{Guest}
 use Rattle.frames.specs.declared.answer.Verdict.the-variants.{Drop}
 use Rattle.rules.specs.Rules.{outcomeOf}

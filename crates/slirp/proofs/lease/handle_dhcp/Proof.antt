@@ -1,14 +1,11 @@
 -- `lease::handle_dhcp` meets its contract: the datagram put at 34 is framed in place.
-use Prim.Native.Nat.{ℕ, _+_, _≤_}
-use mathlib.Core.Path.{_≡_, refl, ap, sym, _∙_}
-use mathlib.Core.List.{List}
+use mathlib.Core.Path.{_≡_, refl, sym, _∙_}
 use native.Mathlib.Omega.{arith}
 use lib.ListN.{length}
 use lib.ListN.{length-map}
 use Rattle.dhcp.specs.Rfc2131.{reply}
 use Rattle.dhcp.proofs.ReadBack.{FourBytes, reply-reads-back}
 use Rattle.fields.specs.Rfc894.{sourceMac}
-use Rattle.frames.specs.Answer.{Meets, spending}
 use Rattle.frames.specs.Network.{broadcastOf}
 use Rattle.frames.specs.Rfc768.{datagram}
 use Rattle.frames.proofs.Lengths.{length-datagram}
