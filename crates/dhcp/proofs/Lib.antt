@@ -1,9 +1,5 @@
-pub mod Sentences
-pub mod Places
 pub mod Pieces
 pub mod ReadBack
 pub mod RoundTrip
 pub mod OneAnswer
 pub mod InBuffer
-pub mod CutShort
-pub mod CutPlace

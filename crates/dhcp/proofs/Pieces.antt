@@ -11,7 +11,7 @@ use Rattle.frames.specs.declared.network.Network.{Network}
 use Rattle.frames.proofs.Lists.{fits, length-put, put-put, put-front}
 use Rattle.dhcp.specs.Pieces.{firstFields, fixedPart, values, written}
 use Rattle.dhcp.specs.Rfc2131.{cookie, reply}
-use Rattle.dhcp.specs.Rfc2132.{option}
+use Rattle.options.specs.Rfc2132.{option}
 
 -- the buffer `b` once `front`, of `len` bytes, stands at its front
 pub record Front (b front : List ℕ) (len : ℕ) (now : List ℕ) : Type 0 where

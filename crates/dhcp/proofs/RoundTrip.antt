@@ -6,7 +6,7 @@ use lib.ListN.{length}
 use Rattle.frames.specs.declared.network.Network.{Network}
 use Rattle.frames.proofs.Lists.{all-bytes}
 use Rattle.dhcp.specs.Rfc2131.{reply}
-use Rattle.dhcp.specs.Rfc2132.{typed, walk, walkFrom}
+use Rattle.options.specs.Rfc2132.{typed, walk, walkFrom}
 use Rattle.dhcp.proofs.ReadBack.{FourBytes}
 
 pub round-trip : (net : Network) (mac : List ℕ) (xid type : ℕ) → FourBytes net → length mac ≡ 6 → walk (reply net mac xid type) ≡ typed type

@@ -1,4 +1,2 @@
-pub mod Rfc2132
 pub mod Rfc2131
 pub mod Pieces
-pub mod Found

@@ -5,7 +5,7 @@ use lib.ListN.{getD, replicate}
 use Rattle.fields.specs.Bytes.{be32}
 use Rattle.frames.specs.declared.network.Network.{Network}
 use Rattle.dhcp.specs.Rfc2131.{cookie}
-use Rattle.dhcp.specs.Rfc2132.{option}
+use Rattle.options.specs.Rfc2132.{option}
 
 -- all fields up to the MAC
 abbrev pub firstFields : (guest gateway mac : List ℕ) (xid : ℕ) → List ℕ

@@ -7,7 +7,7 @@ use Rattle.fields.specs.Bytes.{be16, be32}
 use Rattle.frames.specs.Pick.{pick}
 use Rattle.frames.specs.Answer.{Writing, fitting}
 use Rattle.frames.specs.declared.network.Network.{Network}
-use Rattle.dhcp.specs.Rfc2132.{option}
+use Rattle.options.specs.Rfc2132.{option}
 
 -- section 3: "99, 130, 83 and 99"
 abbrev pub cookie : List ℕ

@@ -6,13 +6,13 @@ ghost use Rattle.frames.specs.Answer.{Wrote};
 ghost use Rattle.frames.specs.Buffer.{put as Buffer·put, putIfFits};
 ghost use Rattle.dhcp.specs.Rfc2131.{answering, buildReply};
 ghost use Rattle.dhcp.specs.Pieces.{firstFields, fixedPart, written, values as Pieces·values};
-ghost use Rattle.dhcp.specs.Rfc2132.{option};
-use crate::options::END;
-use crate::options::MESSAGE_TYPE;
+ghost use Rattle.options.specs.Rfc2132.{option};
 use fields::be32;
 use frames::Network;
 use frames::Verdict;
 use frames::put;
+use options::END;
+use options::MESSAGE_TYPE;
 
 // What the reply holds before its options: a reply, for Ethernet, whose addresses have six bytes.
 const BOOT_REPLY: u8 = 2;

@@ -4,7 +4,7 @@ use mathlib.Core.Path.{_≡_, refl, subst}
 use mathlib.Core.List.{List, _++_}
 use lib.ListN.{length, drop}
 use Rattle.dhcp.specs.Rfc2131.{reply}
-use Rattle.dhcp.specs.Rfc2132.{walk, walkFrom}
+use Rattle.options.specs.Rfc2132.{walk, walkFrom}
 use Rattle.frames.specs.Answer.{Meets, Outcome, paper}
 use Rattle.frames.specs.Network.{network}
 use Rattle.frames.specs.declared.answer.Answer.{Answer}

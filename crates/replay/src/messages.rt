@@ -1,12 +1,12 @@
 // DHCP lines: the walk over a message's options, the types of replies, and the reply.
 use crate::answers;
 use crate::answers::Expected;
-use dhcp::Found;
 use fields::byte_at;
 use fields::mac_at;
 use fields::u16be;
 use fields::u32be;
 use frames::Network;
+use options::Found;
 
 const CUT: u8 = 7;
 
@@ -35,7 +35,7 @@ fn is_walk(line: &[u8], ruled: usize, message: &mut [u8]) -> bool {
     answers::lay_payload(line, line.len(), byte_at(line, 6), message);
     frames::put(message, ruled, answers::rest(line, WRITTEN_AT));
     is_found(
-        dhcp::message_type(message),
+        options::message_type(message),
         byte_at(line, 1),
         u32be(line, 2) as usize,
     )
@@ -67,7 +67,7 @@ pub fn cut_everywhere(line: &[u8]) -> bool {
 fn is_found_before(line: &[u8], len: u16, end: u16) -> bool {
     let answer_at = 3 + (len as usize) + 3 * (end as usize);
     is_found(
-        dhcp::message_type(answers::part(line, 3, end as usize)),
+        options::message_type(answers::part(line, 3, end as usize)),
         byte_at(line, answer_at),
         u16be(line, answer_at + 1) as usize,
     )

@@ -8,7 +8,7 @@ use borrow.Author.Tests.{ltb-true, ltb-false, lt-ltb, le-ltb, eqb-true, eq-eqb, 
 use lib.Dec.{T, ltb, eqb}
 use lib.ListN.{length, length-drop}
 use Rattle.dhcp.specs.Rfc2131.{answering}
-use Rattle.dhcp.specs.Rfc2132.{Walked, typed, cut, walk}
+use Rattle.options.specs.Rfc2132.{Walked, typed, cut, walk}
 use Rattle.fields.specs.Rfc768.{sourcePort, targetPort, lengthField}
 use Rattle.fields.specs.Rfc791.{protocolOf, targetOf}
 use Rattle.fields.specs.Rfc792.{messageType}

@@ -6,7 +6,7 @@ use mathlib.Core.List.{List, [], _∷_}
 use lib.Dec.{eqb, ltb}
 use lib.ListN.{length, drop}
 use Rattle.dhcp.specs.Rfc2131.{answering}
-use Rattle.dhcp.specs.Rfc2132.{Walked, typed, cut, walk}
+use Rattle.options.specs.Rfc2132.{Walked, typed, cut, walk}
 use Rattle.fields.specs.Bytes.{part}
 use Rattle.fields.specs.Rfc768.{sourcePort, targetPort, lengthField}
 use Rattle.fields.specs.Rfc791.{headerLength, protocolOf, targetOf}

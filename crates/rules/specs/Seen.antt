@@ -3,7 +3,7 @@ use Prim.Native.Nat.{ℕ, _+_, _≤_, _<_}
 use mathlib.Core.Path.{_≡_}
 use mathlib.Core.List.{List}
 use lib.ListN.{length}
-use Rattle.dhcp.specs.Rfc2132.{cut, walk}
+use Rattle.options.specs.Rfc2132.{cut, walk}
 use Rattle.fields.specs.Bytes.{part}
 use Rattle.fields.specs.Rfc768.{sourcePort, targetPort, lengthField}
 use Rattle.fields.specs.Rfc791.{protocolOf, targetOf}

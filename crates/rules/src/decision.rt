@@ -7,9 +7,7 @@ ghost use lib.Dec.{eqb, ltb};
 ghost use Rattle.frames.specs.Pick.{pick};
 ghost use Rattle.rules.specs.Rules.{decision, arpDecision, ipDecision, icmpDecision, udpDecision, dhcpDecision, typeDecision};
 ghost use Rattle.rules.specs.Same.{same as Same·same};
-ghost use Rattle.dhcp.specs.Found.{told};
-use dhcp::Found;
-use dhcp::message_type;
+ghost use Rattle.options.specs.Found.{told};
 use dhcp::reply_type;
 use fields::address_at;
 use fields::byte_at;
@@ -20,6 +18,8 @@ use fields::ip_proto;
 use fields::u16be;
 use fields::u32be;
 use frames::Network;
+use options::Found;
+use options::message_type;
 
 // What is to be done with a frame. A start or a place is counted from the frame's first byte, but
 // for CutType's, which is counted from the DHCP data's.

@@ -1,8 +1,8 @@
 -- `decision::decide_type` meets its contract, case by case.
 use mathlib.Core.Path.{sym, ap, _∙_}
 use borrow.Author.Tests.{eq-eqb, ne-eqb}
-use Rattle.dhcp.specs.Found.{told}
-use Rattle.dhcp.specs.declared.options.Found.{Found}
+use Rattle.options.specs.Found.{told}
+use Rattle.options.specs.declared.Found.{Found}
 use Rattle.rules.specs.Rules.{typeDecision}
 use Rattle.rules.specs.declared.decision.Decision.the-variants.{DhcpReply}
 use borrow.Author.Needs.{needs}

@@ -1,8 +1,9 @@
-// The options of a guest's message.
+// The options of a guest's DHCP message, of any length: the walk over them to its message type. No
+// public function relies on checks by its caller.
 ghost use mathlib.Core.Path.{_≡_};
 ghost use Prim.Native.Nat.{_<_};
-ghost use Rattle.dhcp.specs.Found.{told};
-ghost use Rattle.dhcp.specs.Rfc2132.{walk};
+ghost use Rattle.options.specs.Found.{told};
+ghost use Rattle.options.specs.Rfc2132.{walk};
 
 // What the walk over the options comes to.
 pub enum Found {

@@ -7,7 +7,7 @@ use native.Mathlib.Omega.{arith}
 use borrow.Author.Tests.{le-leb, lt-leb, ne-eqb}
 use lib.ListN.{drop}
 use lib.Dec.{eqb}
-use Rattle.dhcp.specs.Rfc2132.{typed, cut, decides, walkFrom}
+use Rattle.options.specs.Rfc2132.{typed, cut, decides, walkFrom}
 
 -- bytes stepped over are dropped
 pub stepped-over : (over place : ℕ) (rest : List ℕ) → walkFrom place over rest ≡ walkFrom (place + over) 0 (drop over rest)

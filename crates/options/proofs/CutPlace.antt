@@ -9,7 +9,7 @@ use lib.ListN.{drop}
 use lib.Seq.{drop-drop}
 use lib.Dec.{eqb, leb}
 use Rattle.frames.specs.Pick.{pick}
-use Rattle.dhcp.specs.Rfc2132.{Walked, typed, cut, decides, typeAt, walk, walkFrom}
+use Rattle.options.specs.Rfc2132.{Walked, typed, cut, decides, typeAt, walk, walkFrom}
 
 pub record LastOption (message : List ℕ) (place : ℕ) : Type 0 where
   pub behind-cookie : 240 ≤ place

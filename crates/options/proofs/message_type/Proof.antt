@@ -7,12 +7,12 @@ use native.Mathlib.Omega.{arith}
 use borrow.Author.Needs.{needs}
 use borrow.Author.Tests.{leb-true, leb-false}
 use lib.ListN.{length}
-use Rattle.dhcp.specs.Rfc2132.{decides, walk}
+use Rattle.options.specs.Rfc2132.{decides, walk}
 use Rattle.fields.specs.Bytes.{u8At}
-use Rattle.dhcp.proofs.Sentences.{another-code, no-value}
-use Rattle.dhcp.proofs.Places.{walkAt, past-end, at-255, at-0, at-last, at-other, at-type, at-cut}
-use Rattle.dhcp.proofs.options.message_type.Statement.{statement}
-use Rattle.dhcp.proofs.options.message_type.Tie as tie
+use Rattle.options.proofs.Sentences.{another-code, no-value}
+use Rattle.options.proofs.Places.{walkAt, past-end, at-255, at-0, at-last, at-other, at-type, at-cut}
+use Rattle.options.proofs.message_type.Statement.{statement}
+use Rattle.options.proofs.message_type.Tie as tie
 
 abbrev Inv-scan : tie.InvT-scan
 Inv-scan «data» at₀ at = walkAt «data» at ≡ walk «data»

@@ -9,8 +9,8 @@ use lib.ListN.{take, drop, length-take, drop-of-length-le}
 use borrow.Author.Tests.{leb-true, leb-false}
 use lib.Dec.{eqb, leb}
 use Rattle.frames.specs.Pick.{pick}
-use Rattle.dhcp.specs.Rfc2132.{Walked, typed, cut, decides, typeAt, walk, walkFrom}
-use Rattle.dhcp.proofs.Sentences.{end-of-data}
+use Rattle.options.specs.Rfc2132.{Walked, typed, cut, decides, typeAt, walk, walkFrom}
+use Rattle.options.proofs.Sentences.{end-of-data}
 
 -- what the walk over the first bytes comes to, beside the walk over all: the same, no type, or a cut where two bytes are left
 pub data Shortened (whole part : Walked) (ended : ℕ) : Type 0 where

@@ -7,8 +7,8 @@ use native.Mathlib.Omega.{arith}
 use lib.ListN.{length, drop, drop-of-length-le}
 use lib.Seq.{drop-cons, drop-drop}
 use Rattle.fields.specs.Bytes.{u8At}
-use Rattle.dhcp.specs.Rfc2132.{Walked, typed, cut, decides, walkFrom}
-use Rattle.dhcp.proofs.Sentences.{end-of-data, code-255, code-last, code-0, type-there, type-cut, every-other}
+use Rattle.options.specs.Rfc2132.{Walked, typed, cut, decides, walkFrom}
+use Rattle.options.proofs.Sentences.{end-of-data, code-255, code-last, code-0, type-there, type-cut, every-other}
 
 -- the walk at place `at` of a message
 abbrev pub walkAt : List ℕ → ℕ → Walked

@@ -1,0 +1,5 @@
+pub mod Sentences
+pub mod Places
+pub mod OneAnswer
+pub mod CutShort
+pub mod CutPlace

@@ -1,0 +1,2 @@
+pub mod Rfc2132
+pub mod Found
