@@ -8,3 +8,5 @@ mod lease;
 
 pub use entry::handle;
 pub use entry::handle_on;
+pub use rules::Decision;
+pub use rules::decide;
