@@ -1,5 +1,5 @@
 -- Demand 1, of whatever meets the contract of `handle_on`, and so of `handle`: one answer of the numbers 0 to 7, what it says and what it changes, by the
--- decision behind it. "Exactly" is said of 5 and 6, and of 4; of the others the contract says it.
+-- decision behind it. "Exactly" is said of 1, 4, 5 and 6; of the others the contract says it.
 use Prim.Native.Nat.{ℕ, _+_, _≤_, _<_}
 use mathlib.Core.Path.{_≡_, refl, ap, sym, subst, _∙_}
 use mathlib.Core.Bool.{Bool, true, false}
