@@ -19,6 +19,10 @@ part-bytes s (suc n) a h = rw (drop-cons s a 0 (omega arith)) (ap (λ (l : List 
 pub all-bytes : (s : List ℕ) (n : ℕ) → length s ≡ n → s ≡ bytesAt s 0 n
 all-bytes s n h = sym (take-all n s (omega arith)) ∙ part-bytes s n 0 (omega arith)
 
+-- a slice from `n` on, as the code takes it
+pub from-on : (n : ℕ) (s : List ℕ) → take (length s - n) (drop n s) ≡ drop n s
+from-on n s = take-all (length s - n) (drop n s) (omega (arith, length-drop n s))
+
 module _ (at : ℕ) (s b : List ℕ) (fits : at + length s ≤ length b) where
   -- what lies in front of a piece's end
   length-front : length (take at b ++ s) ≡ at + length s

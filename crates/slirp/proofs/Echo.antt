@@ -3,8 +3,7 @@ use Prim.Native.Nat.{ℕ, _+_, _-_, _≤_}
 use mathlib.Core.Path.{_≡_, ap, ap₂, sym, _∙_}
 use mathlib.Core.List.{List, _∷_, _++_}
 use native.Mathlib.Omega.{arith}
-use lib.ListN.{length, take, drop, length-drop}
-use lib.Seq.{take-all}
+use lib.ListN.{length, drop, length-drop}
 use Rattle.fields.specs.Bytes.{be16}
 use Rattle.frames.specs.Buffer.{put, putIfFits}
 use Rattle.frames.proofs.Lists.{fits, length-put, put-put}
@@ -21,10 +20,6 @@ blank-sum request =
 pub length-echo : (request : List ℕ) → 4 ≤ length request → length (echo request) ≡ length request
 unfolding echo echoWith
 length-echo request h = omega (arith, length-drop 4 request)
-
--- a slice from `n` on, as the code takes it
-pub from-on : (n : ℕ) (s : List ℕ) → take (length s - n) (drop n s) ≡ drop n s
-from-on n s = take-all (length s - n) (drop n s) (omega (arith, length-drop n s))
 
 -- four bytes put at `at`, and the request's others put behind them
 pub echo-put : (at c : ℕ) (request copied b b′ after : List ℕ) → 4 ≤ length request → at + length request ≤ length b → copied ≡ drop 4 request → c ≡ checksum copied

@@ -9,7 +9,8 @@ use Rattle.fields.specs.Rfc791.{sourceOf}
 use Rattle.fields.specs.Rfc894.{body, sourceMac}
 use Rattle.frames.specs.Buffer.{put}
 use Rattle.rules.specs.Rfc792.{echo}
-use Rattle.slirp.proofs.Echo.{from-on, length-echo}
+use Rattle.frames.proofs.Lists.{from-on}
+use Rattle.slirp.proofs.Echo.{length-echo}
 use Rattle.slirp.proofs.Framing.{too-small, framed-in-place}
 use borrow.Author.Needs.{needs}
 use Rattle.slirp.proofs.icmp.handle_icmp.Statement.{statement}

@@ -1,5 +1,6 @@
 -- `icmp::put_echo` meets its contract: four bytes, and the request's others behind them.
-use Rattle.slirp.proofs.Echo.{from-on, echo-put}
+use Rattle.frames.proofs.Lists.{from-on}
+use Rattle.slirp.proofs.Echo.{echo-put}
 use borrow.Author.Needs.{needs}
 use Rattle.slirp.proofs.icmp.put_echo.Statement.{statement}
 use Rattle.slirp.proofs.icmp.put_echo.Tie as tie

@@ -1,0 +1,76 @@
+-- What a comparison tells that ends a test: both ways, by the comparison's two answers.
+use Prim.Native.Nat.{ℕ, _+_, _-_, _≤_}
+use mathlib.Core.Path.{_≡_, refl, sym, subst, ap, _∙_}
+use mathlib.Core.Bool.{Bool, true, false, not}
+use mathlib.Core.Logic.{_⊎_, inl, inr}
+use mathlib.Core.List.{List, _++_}
+use native.Mathlib.Nat.{zero-add}
+use native.Mathlib.Omega.{arith}
+use lib.Dec.{eqb}
+use lib.ListN.{length, take, drop}
+use Rattle.frames.proofs.Lists.{from-on}
+use borrow.Author.Tests.{eqb-true, eqb-false, not-true, not-false}
+use Rattle.sums.specs.Rfc1071.{total, fold, SumsRight}
+use Rattle.reader.specs.Tells.{Tells}
+use Rattle.reader.specs.Grammar.{UDPSums, unsummed, summed, pseudoHeader, payload}
+
+pub tells-eq : {A : Type 0} (m n : ℕ) → (m ≡ n → A) → (A → m ≡ n) → Tells (eqb m n) A
+tells-eq {A} m n to from = go (eqb m n) refl
+  where
+    go : (b : Bool) → eqb m n ≡ b → Tells b A
+    go true e = to (eqb-true m n e)
+    go false e = λ a. eqb-false m n e (from a)
+
+-- what tells of one thing tells of another that holds exactly when it does
+pub tells-same : {A B : Type 0} (b : Bool) → Tells b A → (A → B) → (B → A) → Tells b B
+tells-same true t to from = to t
+tells-same false t to from = λ x. t (from x)
+
+-- what a negated test tells, passed and failed
+pub tells-not : {A : Type 0} (b : Bool) → Tells b A → not b ≡ true → A → ⊥
+tells-not {A} b t e = subst (λ (x : Bool). Tells x A) (not-true b e) t
+
+pub tells-yes : {A : Type 0} (b : Bool) → Tells b A → not b ≡ false → A
+tells-yes {A} b t e = subst (λ (x : Bool). Tells x A) (not-false b e) t
+
+-- one of two, and not the first
+pub second-of : {A B : Type 0} → A ⊎ B → (A → ⊥) → B
+second-of (inl a) f = absurd (f a)
+second-of (inr b) f = b
+
+-- one of two, and not the second
+pub first-of : {A B : Type 0} → A ⊎ B → (B → ⊥) → A
+first-of (inl a) f = a
+first-of (inr b) f = absurd (f b)
+
+-- a sum from 0 on, compared with 65,535, tells whether its bytes sum right
+pub tells-sums : {A : Type 0} (r : ℕ) (s : List ℕ) → r ≡ fold (0 + total s) → (SumsRight s → A) → (A → SumsRight s) → Tells (eqb r 65535) A
+unfolding SumsRight
+tells-sums {A} r s e to from =
+    let plain : r ≡ fold (total s) = e ∙ ap fold (zero-add (total s)) in
+    tells-eq r 65535 (λ x. to (sym plain ∙ x)) (λ a. plain ∙ from a)
+
+-- a slice from `r` on, as the code takes it, where `r` is known to be `h`
+pub rest : (s : List ℕ) (r h : ℕ) → r ≡ h → take (length s - r) (drop r s) ≡ drop h s
+rest s r h e = ap (λ (n : ℕ). take (length s - n) (drop n s)) e ∙ from-on h s
+
+-- 1 or 2, and neither less nor more
+pub one-or-two : (x : ℕ) → 1 ≤ x → x ≤ 2 → (x ≡ 1) ⊎ (x ≡ 2)
+one-or-two x a b = go (eqb x 1) refl
+  where
+    go : (t : Bool) → eqb x 1 ≡ t → (x ≡ 1) ⊎ (x ≡ 2)
+    go true e = inl (eqb-true x 1 e)
+    go false e = inr (let n = eqb-false x 1 e in omega (arith, n))
+
+pub at-least-1 : (x : ℕ) → (x ≡ 1) ⊎ (x ≡ 2) → 1 ≤ x
+at-least-1 x (inl e) = omega arith
+at-least-1 x (inr e) = omega arith
+
+pub at-most-2 : (x : ℕ) → (x ≡ 1) ⊎ (x ≡ 2) → x ≤ 2
+at-most-2 x (inl e) = omega arith
+at-most-2 x (inr e) = omega arith
+
+-- a datagram with a checksum that isn't zero has to sum right
+pub has-to-sum : (p : List ℕ) (checksum : ℕ) → UDPSums p checksum → (checksum ≡ 0 → ⊥) → SumsRight (pseudoHeader p ++ payload p)
+has-to-sum p checksum (unsummed e) f = absurd (f e)
+has-to-sum p checksum (summed g right) f = right

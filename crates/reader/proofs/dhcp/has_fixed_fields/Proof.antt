@@ -1,0 +1,69 @@
+-- `has_fixed_fields` meets its contract: each test is a field.
+use borrow.Author.Needs.{needs}
+use mathlib.Core.Path.{sym, subst, _∙_}
+use native.Mathlib.Omega.{arith}
+use native.Mathlib.Nat.{lt-irrefl, lt-of-lt-of-le, lt-of-le-of-lt}
+use Rattle.reader.proofs.Telling.{tells-eq, one-or-two, at-least-1, at-most-2}
+use Rattle.reader.proofs.dhcp.has_fixed_fields.Statement.{statement}
+use Rattle.reader.proofs.dhcp.has_fixed_fields.Tie as tie
+
+returns : tie.Need-returns
+returns c = search needs
+
+returns-2 : tie.Need-returns-2
+returns-2 c = search needs
+
+byte-at-requires : tie.Need-byte-at-requires
+byte-at-requires c κs = search needs
+
+returns-3 : tie.Need-returns-3
+returns-3 c = λ a. let least = at-least-1 _ (a .operation) in omega (arith, least)
+
+returns-4 : tie.Need-returns-4
+returns-4 c = λ a. let most = at-most-2 _ (a .operation) in omega (arith, most)
+
+byte-at-requires-2 : tie.Need-byte-at-requires-2
+byte-at-requires-2 c κs = search needs
+
+returns-5 : tie.Need-returns-5
+returns-5 c = search needs
+
+byte-at-requires-3 : tie.Need-byte-at-requires-3
+byte-at-requires-3 c κs = search needs
+
+returns-6 : tie.Need-returns-6
+returns-6 c = search needs
+
+u32be-requires : tie.Need-u32be-requires
+u32be-requires c κs = search needs
+
+returns-7 : tie.Need-returns-7
+returns-7 c =
+    let operation = c .before .before .before .before .before .before .before .byte-at in
+    tells-eq (c .u32be .result) 0x63825363
+    (λ e.
+    record {
+      least = search needs;
+      most = search needs;
+      operation = one-or-two _ (search needs) (search needs);
+      hardware = search needs;
+      hardware-length = search needs;
+      cookie = sym (c .u32be .ensures) ∙ e;
+    })
+    (λ a. c .u32be .ensures ∙ a .cookie)
+
+pub has-fixed-fields-spec : {M : Type 1} → statement M
+has-fixed-fields-spec =
+    tie.close
+    (tie.spec
+    returns
+    returns-2
+    byte-at-requires
+    returns-3
+    returns-4
+    byte-at-requires-2
+    returns-5
+    byte-at-requires-3
+    returns-6
+    u32be-requires
+    returns-7)

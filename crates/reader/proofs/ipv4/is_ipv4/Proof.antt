@@ -1,0 +1,88 @@
+-- `is_ipv4` meets its contract: each test is a field of the rule.
+use borrow.Author.Needs.{needs}
+use Prim.Native.Nat.{ℕ, _+_}
+use mathlib.Core.Path.{refl, ap, _∙_}
+use mathlib.Core.List.{List}
+use native.Mathlib.Omega.{arith}
+use lib.ListN.{take, length-take}
+use Rattle.sums.specs.Rfc1071.{total, fold}
+use Rattle.reader.specs.Grammar.{headerLength}
+use Rattle.reader.specs.Steps.{Whole}
+use Rattle.reader.proofs.Telling.{tells-sums, tells-not, tells-yes}
+use Rattle.reader.proofs.ipv4.is_ipv4.Statement.{statement}
+use Rattle.reader.proofs.ipv4.is_ipv4.Tie as tie
+
+byte-at-requires : tie.Need-byte-at-requires
+byte-at-requires c κs = search needs
+
+returns : tie.Need-returns
+returns c = search needs
+
+header-length-requires : tie.Need-header-length-requires
+header-length-requires c κs = search needs
+
+returns-2 : tie.Need-returns-2
+returns-2 c = search needs
+
+u16be-requires : tie.Need-u16be-requires
+u16be-requires c κs = search needs
+
+cast-total : tie.Need-cast-total
+cast-total c = search needs
+
+returns-3 : tie.Need-returns-3
+returns-3 c = search needs
+
+returns-4 : tie.Need-returns-4
+returns-4 c = search needs
+
+is-whole-requires : tie.Need-is-whole-requires
+is-whole-requires c κs = search needs
+
+returns-5 : tie.Need-returns-5
+returns-5 c = λ a. tells-not {A = Whole (c .before .before .before .before .before .before .before .before .before .before .args .packet .now)} (c .before .is-whole .result) (c .before .is-whole .ensures) (c .if5 .taken) (record { reserved = a .reserved; more-fragments = a .more-fragments; offset = a .offset })
+
+slice-aggregate-bytes : tie.Need-slice-aggregate-bytes
+slice-aggregate-bytes c = simp length-take (omega arith)
+
+sum-requires : tie.Need-sum-requires
+sum-requires c κs = search needs
+
+returns-6 : tie.Need-returns-6
+returns-6 c =
+    let s : List ℕ = c .before .before .before .before .before .before .before .before .before .before .before .before .args .packet .now in
+    let header = c .before .before .before .before .before .before .before .before .header-length .ensures in
+    let flags = tells-yes {A = Whole s} (c .before .before .before .is-whole .result) (c .before .before .before .is-whole .ensures) (c .before .before .if5 .left) in
+    tells-sums (c .sum .result) (take (headerLength s) s) (c .sum .ensures ∙ ap (λ (n : ℕ). fold (0 + total (take n s))) (header .0))
+    (λ right.
+    record {
+      version = search needs;
+      least-header = search needs;
+      most-header = search needs;
+      total = search needs;
+      inside = search needs;
+      reserved = flags .reserved;
+      more-fragments = flags .more-fragments;
+      offset = flags .offset;
+      sums = right;
+      split = refl;
+    })
+    (λ a. a .sums)
+
+pub is-ipv4-spec : {M : Type 1} → statement M
+is-ipv4-spec =
+    tie.close
+    (tie.spec
+    byte-at-requires
+    returns
+    header-length-requires
+    returns-2
+    u16be-requires
+    cast-total
+    returns-3
+    returns-4
+    is-whole-requires
+    returns-5
+    slice-aggregate-bytes
+    sum-requires
+    returns-6)

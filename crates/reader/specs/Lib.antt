@@ -1,0 +1,5 @@
+pub mod Tells
+pub mod Grammar
+pub mod Steps
+pub mod Report
+pub mod Walked

@@ -1,0 +1,59 @@
+-- What the reader answers, in document 01's words: "Parts reported: the kind, where each header and payload starts and stops, the DHCP message type", or
+-- verdict 8, "outside the grammar".
+use Prim.Native.Nat.{ℕ, _+_}
+use mathlib.Core.Path.{_≡_}
+use mathlib.Core.List.{List, [], _∷_}
+use Rattle.fields.specs.Bytes.{u8At}
+use Rattle.reader.specs.Grammar.{Layer, Item, pad, option, ItemList, Derivation, arp, other, icmp, udp, dhcp, tcp, types, Derives}
+use Rattle.reader.specs.declared.parts.Reading.{Reading}
+use Rattle.reader.specs.declared.parts.Reading.the-variants.{Arp, OtherIpv4, Icmp, Udp, Dhcp, Tcp, Outside}
+use Rattle.reader.specs.declared.parts.Layer.{Layer as Parts·Layer}
+
+pub data Kind : Type 0 where
+  ARP OtherIPv4 ICMP UDP DHCP TCP : Kind
+
+pub data Report : Type 0 where
+  -- the layers, the outermost first; the message type of DHCP alone
+  parts : (kind : Kind) (layers : List Layer) (type : List ℕ) → Report
+  -- a refusal by its number
+  refused : (number : ℕ) → Report
+
+-- the values of options 53
+abbrev pub values : (frame : List ℕ) → List Item → List ℕ
+values frame [] = []
+values frame (pad place ∷ rest) = values frame rest
+values frame (option place code len ∷ rest) = u8At frame (place + 2) ∷ values frame rest
+
+-- the parts of a derivation
+unfoldable pub partsOf : (frame : List ℕ) → Derivation → Report
+partsOf frame (arp ethernet) = parts ARP (ethernet ∷ []) []
+partsOf frame (other ethernet ip) = parts OtherIPv4 (ethernet ∷ ip ∷ []) []
+partsOf frame (icmp ethernet ip message) = parts ICMP (ethernet ∷ ip ∷ message ∷ []) []
+partsOf frame (udp ethernet ip datagram) = parts UDP (ethernet ∷ ip ∷ datagram ∷ []) []
+partsOf frame (dhcp ethernet ip datagram message items) =
+    parts DHCP (ethernet ∷ ip ∷ datagram ∷ message ∷ []) (values frame (types items))
+partsOf frame (tcp ethernet ip segment) = parts TCP (ethernet ∷ ip ∷ segment ∷ []) []
+
+-- The promise of the reader: the parts of a derivation, or 8 where the frame has none.
+pub data Reads (frame : List ℕ) (answer : Report) : Type 0 where
+  takes : (d : Derivation) → Derives frame d → answer ≡ partsOf frame d → Reads frame answer
+  refuses : answer ≡ refused 8 → ((d : Derivation) → Derives frame d → ⊥) → Reads frame answer
+
+-- what the code's layer says
+abbrev pub span : Parts·Layer → Layer
+span l =
+    record {
+      header = record { start = l .header; stop = l .payload };
+      payload = record { start = l .payload; stop = l .stop };
+    }
+
+-- what the code's answer says
+unfoldable pub told : Reading → Report
+told (Arp ethernet) = parts ARP (span ethernet ∷ []) []
+told (OtherIpv4 ethernet ip) = parts OtherIPv4 (span ethernet ∷ span ip ∷ []) []
+told (Icmp ethernet ip message) = parts ICMP (span ethernet ∷ span ip ∷ span message ∷ []) []
+told (Udp ethernet ip datagram) = parts UDP (span ethernet ∷ span ip ∷ span datagram ∷ []) []
+told (Dhcp ethernet ip datagram message type) =
+    parts DHCP (span ethernet ∷ span ip ∷ span datagram ∷ span message ∷ []) (type ∷ [])
+told (Tcp ethernet ip segment) = parts TCP (span ethernet ∷ span ip ∷ span segment ∷ []) []
+told Outside = refused 8

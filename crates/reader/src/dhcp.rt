@@ -1,0 +1,155 @@
+// A DHCP message: RFC 2131, and its list of options, RFC 2132. The list reader calls the item reader,
+// which calls the list reader on what remains.
+ghost use mathlib.Core.Path.{_≡_};
+ghost use Prim.Native.Nat.{_≤_, _<_};
+ghost use lib.ListN.{length, drop};
+ghost use Rattle.fields.specs.Bytes.{u8At};
+ghost use Rattle.reader.specs.Steps.{AllZero};
+ghost use Rattle.reader.specs.Tells.{Tells};
+ghost use Rattle.reader.specs.Walked.{FixedFields, Listed, MessageRead};
+use fields::byte_at;
+use fields::u32be;
+
+// The fixed fields and the cookie.
+const HEADER: usize = 240;
+
+const LONGEST: usize = 1472;
+
+// Fields.
+const OPERATION: usize = 0;
+
+const HARDWARE: usize = 1;
+
+const HARDWARE_LENGTH: usize = 2;
+
+const COOKIE: usize = 236;
+
+// Values.
+const BOOT_REQUEST: u8 = 1;
+
+const BOOT_REPLY: u8 = 2;
+
+const ETHERNET: u8 = 1;
+
+const MAC_LENGTH: u8 = 6;
+
+const MAGIC_COOKIE: u32 = 0x63825363;
+
+// Codes of items, and of the list's end.
+const PAD: u8 = 0;
+
+const MESSAGE_TYPE: u8 = 53;
+
+const END: u8 = 255;
+
+// The type of the message that starts at `at` and runs to the end of the frame; 0 where it is none.
+pub fn read_message(frame: &[u8], at: usize) -> u8
+    requires { ⌜ at ≤ length (now frame) ⌝ }
+    ensures { λ r. ⌜ MessageRead (now (frame .entry)) at r ⌝ }
+{
+    if !has_fixed_fields(&frame[at..]) {
+        return 0;
+    }
+    list(frame, at + HEADER, 0)
+}
+
+// Whether what stands before the list is right, and the length of all of it.
+fn has_fixed_fields(message: &[u8]) -> bool
+    ensures { λ r. ⌜ Tells r (FixedFields (now (message .entry))) ⌝ }
+{
+    let len = message.len();
+    if len < HEADER {
+        return false;
+    }
+    if LONGEST < len {
+        return false;
+    }
+    let operation = byte_at(message, OPERATION);
+    if operation < BOOT_REQUEST {
+        return false;
+    }
+    if BOOT_REPLY < operation {
+        return false;
+    }
+    if byte_at(message, HARDWARE) != ETHERNET {
+        return false;
+    }
+    if byte_at(message, HARDWARE_LENGTH) != MAC_LENGTH {
+        return false;
+    }
+    u32be(message, COOKIE) == MAGIC_COOKIE
+}
+
+// The message type by the list from `at` on, which runs to the end of the frame; an option 53 before it
+// said `seen`, 0 where there was none. 0 where there is no such list, or not one type.
+pub fn list(frame: &[u8], at: usize, seen: u8) -> u8
+    ensures { λ r. ⌜ Listed (now (frame .entry)) at seen r ⌝ }
+{
+    if frame.len() <= at {
+        return 0;
+    }
+    if byte_at(frame, at) != END {
+        return item(frame, at, seen);
+    }
+    if !zeros(frame, at + 1) {
+        return 0;
+    }
+    seen
+}
+
+// The same where the list starts with an item.
+fn item(frame: &[u8], at: usize, seen: u8) -> u8
+    requires { ⌜ at < length (now frame) ⌝ }
+    requires { ⌜ (u8At (now frame) at ≡ 255 → ⊥) ⌝ }
+    ensures { λ r. ⌜ Listed (now (frame .entry)) at seen r ⌝ }
+{
+    let code = byte_at(frame, at);
+    if code == PAD {
+        return list(frame, at + 1, seen);
+    }
+    let left = frame.len() - at;
+    if left < 2 {
+        return 0;
+    }
+    let len = widened(byte_at(frame, at + 1));
+    if left - 2 < len {
+        return 0;
+    }
+    if code != MESSAGE_TYPE {
+        return list(frame, at + 2 + len, seen);
+    }
+    if seen != 0 {
+        return 0;
+    }
+    if len != 1 {
+        return 0;
+    }
+    let value = byte_at(frame, at + 2);
+    if value < 1 {
+        return 0;
+    }
+    if 8 < value {
+        return 0;
+    }
+    list(frame, at + 3, value)
+}
+
+// Whether all bytes from `from` on are 0.
+fn zeros(frame: &[u8], from: usize) -> bool
+    ensures { λ r. ⌜ Tells r (AllZero (drop from (now (frame .entry)))) ⌝ }
+{
+    let mut i = from;
+    while i < frame.len() {
+        if frame[i] != 0 {
+            return false;
+        }
+        i += 1;
+    }
+    true
+}
+
+fn widened(byte: u8) -> usize
+    ensures { λ r. ⌜ (r ≡ byte) × (r < 256) ⌝ }
+{
+    byte as usize
+}
