@@ -2,3 +2,4 @@ pub mod MarkedHold
 pub mod Demand1
 pub mod Replies
 pub mod Isolation
+pub mod DerivedIp

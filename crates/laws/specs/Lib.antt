@@ -1,3 +1,4 @@
 pub mod Marked
 pub mod Table
 pub mod Host
+pub mod Derivations

@@ -1,0 +1,103 @@
+-- An IPv4 frame around any payload is derived down to that payload: what the grammar asks of its fields is read back from the frame.
+use Prim.Native.Nat.{ℕ, _+_}
+use mathlib.Core.Path.{_≡_, refl, ap, sym, subst, _∙_}
+use mathlib.Core.List.{List, [], _∷_, _++_}
+use native.Mathlib.Omega.{arith}
+use lib.ListN.{length, take, drop, length-drop}
+use lib.Seq.{drop-drop, getD-drop}
+use Rattle.fields.specs.Bytes.{u8At, part}
+use Rattle.frames.specs.Answer.{paper, Meets}
+use Rattle.frames.specs.Builders.{makeIpFrame}
+use Rattle.frames.specs.Rfc768
+use Rattle.frames.specs.Rfc791.{header, headerWith, ipFrame}
+use Rattle.frames.specs.declared.answer.Answer.{Answer}
+use Rattle.frames.specs.declared.answer.Guest.{Guest}
+use Rattle.frames.proofs.InBuffer.{ip-frame-in-buffer}
+use Rattle.frames.proofs.Lengths.{drop-14, drop-34, length-ipFrame}
+use Rattle.frames.proofs.Lists.{all-bytes}
+use Rattle.frames.proofs.ReadBack.{ethernet-reads-back, frame-reads-back}
+use Rattle.frames.proofs.SumsRight.{frame-header-sums-right}
+use Rattle.reader.specs.Grammar.{layer, Ethernet, body, IPv4, headerLength, protocol, payloadAt, payload, pseudoHeader}
+use Rattle.sums.specs.Rfc1071.{SumsRight}
+use Rattle.laws.specs.Derivations.{parts}
+
+-- a layer by its places
+pub placed : (at len : ℕ) (s : List ℕ) (start mid stop : ℕ) → start ≡ at → mid ≡ at + len → stop ≡ at + length s → parts start mid stop ≡ layer at len s
+placed at len s start mid stop e f g = λ i. parts (e i) (f i) (g i)
+
+-- a frame of `n` bytes down to its IPv4 payload
+pub record Packet (frame : List ℕ) (n proto : ℕ) (source target carried : List ℕ) : Type 0 where
+  pub ethernet : Ethernet frame 0x0800 (parts 0 14 n)
+  pub ip : IPv4 (body frame) (parts 14 34 n)
+  pub protocol-is : protocol (body frame) ≡ proto
+  pub payload-at : payloadAt (body frame) ≡ 34
+  pub payload-is : payload (body frame) ≡ carried
+  pub pseudo-is : pseudoHeader (body frame) ≡ Rfc768.pseudoHeader source target proto (length carried)
+  pub long : n ≡ 34 + length carried
+
+-- the layer that its payload is
+pub payload-placed : {frame : List ℕ} {n proto : ℕ} {source target carried : List ℕ} → Packet frame n proto source target carried
+    → (len mid : ℕ) → mid ≡ 34 + len → parts 34 mid n ≡ layer (payloadAt (body frame)) len (payload (body frame))
+payload-placed {frame} {n} p len mid e =
+    let at : 34 ≡ payloadAt (body frame) = sym (p .payload-at) in
+    let behind : mid ≡ payloadAt (body frame) + len = omega (arith, at) in
+    let stop : n ≡ payloadAt (body frame) + length (payload (body frame)) = omega (arith, at, p .long, ap length (p .payload-is)) in
+    placed (payloadAt (body frame)) len (payload (body frame)) 34 mid n at behind stop
+
+-- a byte of its payload, by its place in the frame
+pub payload-byte : {frame : List ℕ} {n proto : ℕ} {source target carried : List ℕ} → Packet frame n proto source target carried
+    → (i : ℕ) → u8At frame (34 + i) ≡ u8At carried i
+payload-byte {frame} p i =
+    let at : 34 + i ≡ 14 + (headerLength (body frame) + i) = omega (arith, p .payload-at) in
+    ap (u8At frame) at
+    ∙ sym (getD-drop 14 frame (headerLength (body frame) + i) 0)
+    ∙ sym (getD-drop (headerLength (body frame)) (body frame) i 0)
+    ∙ ap (λ (s : List ℕ). u8At s i) (p .payload-is)
+
+module _ (mac source target carried : List ℕ) (id proto : ℕ) (six : length mac ≡ 6) (four : length source ≡ 4) (four′ : length target ≡ 4) where
+  addresses : part (header (20 + length carried) id proto source target ++ carried) 12 8 ≡ source ++ target
+  unfolding header headerWith
+  addresses = rw (all-bytes source 4 four, all-bytes target 4 four′)
+
+  pub packet : (n : ℕ) → n ≡ length (ipFrame mac id proto source target carried) → Packet (ipFrame mac id proto source target carried) n proto source target carried
+  unfolding Rfc768.pseudoHeader
+  packet n e =
+      let frame = ipFrame mac id proto source target carried in
+      let long : length frame ≡ 34 + length carried = length-ipFrame source target four four′ mac carried id proto six in
+      let p = frame-reads-back source target four four′ mac carried id proto six in
+      let rest : length (body frame) ≡ 20 + length carried = omega (arith, length-drop 14 frame, long) in
+      let at-20 : headerLength (body frame) ≡ 20 = p .header-20 in
+      let carried-is : payload (body frame) ≡ carried =
+      drop-drop (headerLength (body frame)) 14 frame
+      ∙ ap (λ (k : ℕ). drop (14 + k) frame) at-20
+      ∙ drop-34 mac source target carried id proto six four four′ in
+      record {
+        ethernet = record { whole = omega arith; typed = ethernet-reads-back mac source target carried id proto six .2; split = placed 0 14 frame 0 14 n refl refl (omega arith) };
+        ip =
+            record {
+              version = p .version-4;
+              least-header = omega (arith, at-20);
+              most-header = omega (arith, at-20);
+              total = omega (arith, p .total, rest);
+              inside = omega (arith, at-20, p .total);
+              reserved = omega (arith, p .unfragmented);
+              more-fragments = omega (arith, p .unfragmented);
+              offset = omega (arith, p .unfragmented);
+              sums = subst (λ (k : ℕ). SumsRight (take k (body frame))) (sym at-20) (frame-header-sums-right source target four four′ mac carried id proto six);
+              split = placed 14 (headerLength (body frame)) (body frame) 14 34 n refl (omega (arith, at-20)) (omega (arith, rest));
+            };
+        protocol-is = p .protocol-is;
+        payload-at = omega (arith, at-20);
+        payload-is = carried-is;
+        pseudo-is = rw (carried-is, p .protocol-is, drop-14 mac source target carried id proto six four four′, addresses);
+        long = omega arith;
+      }
+
+-- what a call that builds an IPv4 frame leaves in the buffer where it answers 1
+pub packet-in-buffer : (guest : Guest) (mac source target : List ℕ) (proto : ℕ) (carried before after : List ℕ) (answer : Answer) (n : ℕ)
+    → length mac ≡ 6 → length source ≡ 4 → length target ≡ 4
+    → Meets (makeIpFrame guest mac source target proto carried (length before)) before after answer → paper (answer .verdict) ≡ 1 ∷ n ∷ []
+    → Packet (take n after) n proto source target carried
+packet-in-buffer guest mac source target proto carried before after answer n six four four′ m one =
+    let b = ip-frame-in-buffer guest before after answer n one mac source target proto six four four′ carried m in
+    rw (b .front) (packet mac source target carried (guest .id) proto six four four′ n (b .long))
