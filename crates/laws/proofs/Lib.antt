@@ -3,3 +3,4 @@ pub mod Demand1
 pub mod Replies
 pub mod Isolation
 pub mod DerivedIp
+pub mod Derived

@@ -1,0 +1,113 @@
+-- ARP, other IPv4, ICMP, UDP and TCP as they are built are derived by the grammar: their fields are read back, and they sum right.
+use Prim.Native.Nat.{ℕ, _+_, _≤_, _/_, _*_}
+use mathlib.Core.Path.{_≡_, refl, ap, sym, _∙_}
+use mathlib.Core.Logic.{inl, inr}
+use mathlib.Core.List.{List}
+use native.Mathlib.Omega.{arith}
+use lib.ListN.{length, length-drop}
+use Rattle.fields.specs.Bytes.{u8At}
+use Rattle.frames.specs.Rfc768.{datagram}
+use Rattle.frames.specs.declared.network.Network.{Network}
+use Rattle.frames.proofs.Lengths.{length-datagram}
+use Rattle.frames.proofs.ReadBack.{DatagramOf, datagram-reads-back}
+use Rattle.reader.specs.Grammar.{body, payload, CarriesDHCP, unsummed, UDP, Derives}
+use Rattle.rules.specs.Rfc792.{echo}
+use Rattle.rules.specs.Rfc826.{arpReply}
+use Rattle.slirp.proofs.ReadBack.{arp-reads-back, echo-reads-back}
+use Rattle.tcp.specs.Rfc9293.{options, segment, covered}
+use Rattle.tcp.specs.declared.Endpoints.{Endpoints}
+use Rattle.tcp.proofs.ReadBack.{SegmentOf, segment-reads-back}
+use Rattle.tcp.proofs.SumsRight.{segment-sums-right}
+use Rattle.tcp.proofs.TcpLaws.{length-segment, syn-cases}
+use Rattle.laws.specs.Derivations.{parts, arpParts, otherParts, icmpParts, udpParts, tcpParts}
+use Rattle.laws.proofs.DerivedIp.{placed, Packet, payload-placed}
+
+-- an ARP reply
+pub arp-derived : (net : Network) (request : List ℕ) → length (net .gateway) ≡ 4 → (n : ℕ) → n ≡ length (arpReply net request) → Derives (arpReply net request) (arpParts n)
+unfolding Derives
+arp-derived net request four n e =
+    let frame = arpReply net request in
+    let a = arp-reads-back net request four in (
+      record { whole = omega (arith, a .long); typed = a .type; split = placed 0 14 frame 0 14 n refl refl (omega arith) },
+      record {
+        size = omega (arith, length-drop 14 frame, a .long);
+        hardware = a .ethernet;
+        protocol = a .ipv4;
+        hardware-length = a .six;
+        protocol-length = a .four;
+        operation = inr (a .is-reply);
+      },
+    )
+
+module _ (frame : List ℕ) (n : ℕ) (source target : List ℕ) where
+  -- a protocol that the grammar leaves free
+  pub other-derived : (proto : ℕ) (carried : List ℕ) → Packet frame n proto source target carried → (proto ≡ 1 → ⊥) → (proto ≡ 6 → ⊥) → (proto ≡ 17 → ⊥)
+      → Derives frame (otherParts n)
+  unfolding Derives
+  other-derived proto carried p no-1 no-6 no-17 =
+      let same = sym (p .protocol-is) in (
+        p .ethernet,
+        p .ip,
+        record { no-icmp = λ e. no-1 (same ∙ e); no-tcp = λ e. no-6 (same ∙ e); no-udp = λ e. no-17 (same ∙ e) },
+      )
+
+  -- an echo reply
+  pub echo-derived : (request : List ℕ) → 8 ≤ length request → Packet frame n 1 source target (echo request) → Derives frame (icmpParts n)
+  unfolding Derives
+  echo-derived request h p =
+      let a = echo-reads-back request (omega arith) in
+      let long : length (payload (body frame)) ≡ length request = ap length (p .payload-is) ∙ a .long in (
+        p .ethernet,
+        p .ip,
+        record {
+          carried = p .protocol-is;
+          size = omega arith;
+          sums = rw (p .payload-is) (a .sums);
+          split = payload-placed p 8 42 refl;
+        },
+      )
+
+  -- a datagram
+  pub datagram-derived : (sport dport : ℕ) (d : List ℕ) → Packet frame n 17 source target (datagram sport dport d) → UDP (body frame) (parts 34 42 n)
+  datagram-derived sport dport d p =
+      let a : DatagramOf (payload (body frame)) sport dport = rw (p .payload-is) (datagram-reads-back sport dport d) in
+      record {
+        carried = p .protocol-is;
+        size = omega (arith, ap length (p .payload-is), length-datagram sport dport d);
+        stated = a .length-is;
+        sums = unsummed (a .checksum-0);
+        split = payload-placed p 8 42 refl;
+      }
+
+  -- a datagram that carries no DHCP
+  pub udp-derived : (sport dport : ℕ) (d : List ℕ) → Packet frame n 17 source target (datagram sport dport d)
+      → (sport ≡ 67 → dport ≡ 68 → ⊥) → (sport ≡ 68 → dport ≡ 67 → ⊥) → Derives frame (udpParts n)
+  unfolding Derives
+  udp-derived sport dport d p no-67-68 no-68-67 =
+      let a : DatagramOf (payload (body frame)) sport dport = rw (p .payload-is) (datagram-reads-back sport dport d) in
+      let from = sym (a .source-port) in
+      let to = sym (a .target-port) in
+      let no-dhcp : CarriesDHCP (payload (body frame)) → ⊥ = elim [ inl c ↦ no-67-68 (from ∙ c .0) (to ∙ c .1) | inr c ↦ no-68-67 (from ∙ c .0) (to ∙ c .1) ] in
+      (p .ethernet, p .ip, datagram-derived sport dport d p, no-dhcp)
+
+-- a segment
+pub tcp-derived : (frame : List ℕ) (n : ℕ) (ends : Endpoints) (seq ack flags : ℕ) (d : List ℕ) → length (ends .«src_ip») ≡ 4 → length (ends .«dst_ip») ≡ 4
+    → Packet frame n 6 (ends .«src_ip») (ends .«dst_ip») (segment ends seq ack flags d) → Derives frame (tcpParts n (length (options flags)))
+unfolding Derives covered
+tcp-derived frame n ends seq ack flags d four four′ p =
+    let a : SegmentOf (payload (body frame)) ends seq ack flags = rw (p .payload-is) (segment-reads-back ends seq ack flags d) in
+    let long : length (payload (body frame)) ≡ 20 + length (options flags) + length d = ap length (p .payload-is) ∙ length-segment ends seq ack flags d in
+    let few : length (options flags) ≤ 8 = syn-cases (λ o k. length o ≤ 8) flags (omega arith) (omega arith) in
+    let off : u8At (payload (body frame)) 12 / 16 * 4 ≡ 20 + length (options flags) = a .offset in (
+      p .ethernet,
+      p .ip,
+      record {
+        carried = p .protocol-is;
+        size = omega arith;
+        least-offset = omega (arith, off);
+        most-offset = omega (arith, off, few);
+        inside = omega (arith, off, long);
+        sums = rw (p .pseudo-is, p .payload-is) (segment-sums-right ends seq ack flags d four four′);
+        split = payload-placed p (u8At (payload (body frame)) 12 / 16 * 4) (54 + length (options flags)) (omega (arith, off));
+      },
+    )
