@@ -4,3 +4,4 @@ pub mod Replies
 pub mod Isolation
 pub mod DerivedIp
 pub mod Derived
+pub mod DerivedDhcp

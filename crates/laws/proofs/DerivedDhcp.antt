@@ -1,0 +1,85 @@
+-- A DHCP reply in its frame is derived by the grammar: its list is taken apart option by option, and the rest is read back.
+use Prim.Native.Nat.{ℕ, _+_, _≤_}
+use mathlib.Core.Path.{_≡_, refl, ap, subst, _∙_}
+use mathlib.Core.Logic.{inr}
+use mathlib.Core.List.{List, [], _∷_, _++_}
+use native.Mathlib.Omega.{arith}
+use lib.ListN.{length, getD, drop, replicate}
+use Rattle.dhcp.specs.Rfc2131.{reply}
+use Rattle.dhcp.proofs.ReadBack.{FourBytes, reply-reads-back}
+use Rattle.fields.specs.Bytes.{be32, u8At}
+use Rattle.frames.specs.Rfc768.{datagram}
+use Rattle.frames.specs.declared.network.Network.{Network}
+use Rattle.frames.proofs.Lengths.{length-datagram}
+use Rattle.frames.proofs.Lists.{all-bytes}
+use Rattle.reader.specs.Grammar.{body, payload, ItemList, END, item, option, IsList, types, CarriesDHCP, DHCP, Derives}
+use Rattle.laws.specs.Derivations.{parts, replyItems, dhcpParts}
+use Rattle.laws.proofs.DerivedIp.{placed, Packet, payload-byte}
+use Rattle.laws.proofs.Derived.{datagram-derived}
+
+-- an option in front of a list
+option-then : (at code len next : ℕ) (value rest : List ℕ) (items : ItemList) → 1 ≤ code → code ≤ 254 → length value ≡ len → next ≡ at + 2 + len
+    → IsList next rest items → IsList at (code ∷ len ∷ value ++ rest) (item (option at code len) items)
+unfolding IsList
+option-then at code len next value rest items least most e f list =
+    let there : next ≡ at + length (code ∷ len ∷ value) = omega arith in
+    (code ∷ len ∷ value, rest, refl, (value, refl, least, most, e, refl), subst (λ (k : ℕ). IsList k rest items) there list)
+
+-- a list that is END and its zeros
+end-there : (at zeros : ℕ) → IsList at (255 ∷ replicate zeros 0) (END at zeros)
+unfolding IsList
+end-there at zeros = (refl, refl)
+
+module _ (net : Network) (mac : List ℕ) (xid type : ℕ) (four : FourBytes net) (six : length mac ≡ 6) where
+  -- what stands behind the cookie
+  behind-cookie : drop 240 (reply net mac xid type)
+      ≡ 53 ∷ 1 ∷ (type ∷ [])
+      ++ (54 ∷ 4 ∷ net .gateway
+      ++ (51 ∷ 4 ∷ be32 (net .lease)
+      ++ (1 ∷ 4 ∷ net .mask
+      ++ (3 ∷ 4 ∷ net .gateway
+      ++ (6 ∷ 4 ∷ net .gateway
+      ++ (255 ∷ replicate 26 0))))))
+  unfolding reply
+  behind-cookie = rw (all-bytes (net .guest) 4 (four .guest), all-bytes (net .gateway) 4 (four .gateway), all-bytes (net .mask) 4 (four .mask), all-bytes mac 6 six)
+
+  reply-list : IsList 282 (drop 240 (reply net mac xid type)) replyItems
+  reply-list =
+      rw behind-cookie
+      (option-then 282 53 1 285 (type ∷ []) _ _ (omega arith) (omega arith) refl refl
+      (option-then 285 54 4 291 (net .gateway) _ _ (omega arith) (omega arith) (four .gateway) refl
+      (option-then 291 51 4 297 (be32 (net .lease)) _ _ (omega arith) (omega arith) refl refl
+      (option-then 297 1 4 303 (net .mask) _ _ (omega arith) (omega arith) (four .mask) refl
+      (option-then 303 3 4 309 (net .gateway) _ _ (omega arith) (omega arith) (four .gateway) refl
+      (option-then 309 6 4 315 (net .gateway) _ _ (omega arith) (omega arith) (four .gateway) refl
+      (end-there 315 26)))))))
+
+  -- the message, from the place 42 of its frame on
+  message-derived : (frame : List ℕ) → u8At frame 284 ≡ type → 1 ≤ type → type ≤ 8 → (n : ℕ) → n ≡ 342 → DHCP frame 42 (reply net mac xid type) (parts 42 282 n) replyItems
+  unfolding types
+  message-derived frame t least most n e =
+      let r = reply-reads-back net mac xid type four six in
+      record {
+        least = omega (arith, r .long);
+        most = omega (arith, r .long);
+        operation = inr (r .is-reply);
+        hardware = r .ethernet;
+        hardware-length = r .mac-length;
+        cookie = r .cookie-is;
+        list = reply-list;
+        type = record { place = 282; once = refl; least = omega (arith, t); most = omega (arith, t) };
+        split = placed 42 240 (reply net mac xid type) 42 282 n refl refl (omega (arith, r .long));
+      }
+
+  -- its frame
+  pub dhcp-derived : (frame : List ℕ) (n : ℕ) (source target : List ℕ) → Packet frame n 17 source target (datagram 68 67 (reply net mac xid type)) → 1 ≤ type → type ≤ 8
+      → Derives frame (dhcpParts n) × (u8At frame 284 ≡ type)
+  unfolding Derives datagram
+  dhcp-derived frame n source target p least most =
+      let m = reply net mac xid type in
+      let r = reply-reads-back net mac xid type four six in
+      let inner : drop 8 (payload (body frame)) ≡ m = ap (drop 8) (p .payload-is) in
+      let t : u8At frame 284 ≡ type = payload-byte p 250 ∙ ap (λ (s : List ℕ). getD s 2 0) (r .type-is) in
+      let ports : CarriesDHCP (payload (body frame)) = rw (p .payload-is) (inr (refl, refl)) in
+      let message = message-derived frame t least most n (omega (arith, p .long, r .long, length-datagram 68 67 m)) in
+      ((p .ethernet, p .ip, datagram-derived frame n source target 68 67 m p, ports, rw (p .payload-at, inner) message), t)
