@@ -5,3 +5,4 @@ pub mod Isolation
 pub mod DerivedIp
 pub mod Derived
 pub mod DerivedDhcp
+pub mod DerivedReplies
