@@ -6,3 +6,4 @@ pub mod DerivedIp
 pub mod Derived
 pub mod DerivedDhcp
 pub mod DerivedReplies
+pub mod Demand3
