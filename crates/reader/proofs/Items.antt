@@ -7,10 +7,10 @@ use native.Mathlib.Omega.{arith}
 use lib.Dec.{eqb}
 use lib.ListN.{length, drop, replicate, getD, take, length-append, take-append-drop, drop-of-length-le}
 use native.Mathlib.Numerals.{add-one}
-use Rattle.reader.specs.Steps.{AllZero}
+use Rattle.reader.specs.Helpers.{AllZero}
 use lib.Seq.{drop-at, drop-cons, length-take-le}
 use borrow.Author.Tests.{ne-eqb}
-use Rattle.reader.specs.Grammar.{Item, pad, option, ItemList, END, item, IsItem, IsList, types, typeFirst}
+use Rattle.reader.specs.Grammar.{Item, pad, option, ItemList, END, item, IsItem, IsList, options53, with53}
 
 pub no-cons : {A : Type 0} (x : A) (l : List A) → _≡_ {A = List A} [] (x ∷ l) → ⊥
 no-cons {A} x l e = subst Empty e tt

@@ -4,5 +4,6 @@ mod Pseudo
 mod Items
 mod Listing
 mod Messages
-mod Unique
+pub mod Unique
 mod Answers
+pub mod Exact

@@ -12,9 +12,9 @@ use lib.ListN.{length, drop, take, replicate, length-drop, drop-of-length-le, ta
 use lib.Seq.{drop-cons, drop-drop, length-take-le}
 use borrow.Author.Tests.{ne-eqb, eqb-false}
 use Rattle.fields.specs.Bytes.{u8At}
-use Rattle.reader.specs.Grammar.{Item, pad, option, ItemList, END, item, IsList, types}
-use Rattle.reader.specs.Steps.{AllZero}
-use Rattle.reader.specs.Walked.{Gives, before, within, ListGives, Listed}
+use Rattle.reader.specs.Grammar.{Item, pad, option, ItemList, END, item, IsList, options53}
+use Rattle.reader.specs.Helpers.{AllZero}
+use Rattle.reader.specs.Messages.{Gives, before, within, ListGives, Listed}
 use Rattle.reader.proofs.Items.{Starts, ends, pads, opts, starts, list-nil, all-zeros, zeros-all, no-cons, head-same, tail-same}
 
 -- an option at `at`, and the rest of the list behind it
@@ -37,25 +37,25 @@ nothing s at seen h = h
 
 -- a list that ends here gives what was seen
 ended : (s : List ℕ) (seen place zeros type : ℕ) → Gives s seen (END place zeros) type → (1 ≤ seen) × (type ≡ seen)
-unfolding types
+unfolding options53
 ended s seen place zeros type (before least e t) = (least, e)
 ended s seen place zeros type (within e p t v least most) = absurd (no-cons (option p 53 1) [] t)
 
 -- lists with the same options 53 give the same
-gives-same : (s : List ℕ) (seen type : ℕ) (a b : ItemList) → types a ≡ types b → Gives s seen a type → Gives s seen b type
+gives-same : (s : List ℕ) (seen type : ℕ) (a b : ItemList) → options53 a ≡ options53 b → Gives s seen a type → Gives s seen b type
 gives-same s seen type a b e (before least f t) = before least f (sym e ∙ t)
 gives-same s seen type a b e (within z p t v least most) = within z p (sym e ∙ t) v least most
 
 -- an option that isn't 53 is none of them
-pub types-other : (place code len : ℕ) → (code ≡ 53 → ⊥) → (rest : ItemList) → types (item (option place code len) rest) ≡ types rest
-unfolding types
+pub types-other : (place code len : ℕ) → (code ≡ 53 → ⊥) → (rest : ItemList) → options53 (item (option place code len) rest) ≡ options53 rest
+unfolding options53
 types-other place code len other rest =
-    ap (λ (b : Bool). elim b [ true ↦ option place code len ∷ types rest | false ↦ types rest ]) (ne-eqb code 53 other)
+    ap (λ (b : Bool). elim b [ true ↦ option place code len ∷ options53 rest | false ↦ options53 rest ]) (ne-eqb code 53 other)
 
 -- an option 53 is the first of them
-pub types-53 : (place code len : ℕ) → code ≡ 53 → (rest : ItemList) → types (item (option place code len) rest) ≡ option place 53 len ∷ types rest
-unfolding types
-types-53 place code len e rest = ap (λ (n : ℕ). types (item (option place n len) rest)) e
+pub types-53 : (place code len : ℕ) → code ≡ 53 → (rest : ItemList) → options53 (item (option place code len) rest) ≡ option place 53 len ∷ options53 rest
+unfolding options53
+types-53 place code len e rest = ap (λ (n : ℕ). options53 (item (option place n len) rest)) e
 
 -- no byte left: no list
 pub past : (s : List ℕ) (at seen : ℕ) → length s ≤ at → Listed s at seen 0
@@ -95,7 +95,7 @@ module _ (s : List ℕ) (at seen : ℕ) (inside : at < length s) where
     end-list z = (refl, here ∙ ap (λ (n : ℕ). n ∷ drop (at + 1) s) end ∙ ap (λ (l : List ℕ). 255 ∷ l) (all-zeros (drop (at + 1) s) z))
 
     pub end-taken : AllZero (drop (at + 1) s) → Listed s at seen seen
-    unfolding Listed ListGives types
+    unfolding Listed ListGives options53
     end-taken z = answers seen refl
       where
         answers : (n : ℕ) → n ≡ seen → Listed s at seen n
@@ -106,13 +106,13 @@ module _ (s : List ℕ) (at seen : ℕ) (inside : at < length s) where
   -- a pad
   module _ (is-pad : u8At s at ≡ 0) where
     pads-here : (items : ItemList) (type : ℕ) → Starts at (u8At s at) (drop (at + 1) s) items → Gives s seen items type → ListGives s (at + 1) seen type
-    unfolding ListGives types
+    unfolding ListGives options53
     pads-here (END place zeros) type (ends n e z) g = absurd (eqb-false 255 0 refl (sym e ∙ is-pad))
     pads-here (item first rest) type (pads more e l) g = (more, l, gives-same s seen type (item (pad at) more) more refl g)
     pads-here (item first rest) type (opts len m more least most e short l) g = absurd (let h : 1 ≤ u8At s at = least in omega arith)
 
     pad-list : (type : ℕ) → ListGives s (at + 1) seen type → ListGives s at seen type
-    unfolding ListGives IsList types
+    unfolding ListGives IsList options53
     pad-list type (rest, l, g) = (item (pad at) rest, (0 ∷ [], drop (at + 1) s, here ∙ ap (λ (n : ℕ). n ∷ drop (at + 1) s) is-pad, (refl, refl), l), gives-same s seen type rest (item (pad at) rest) refl g)
 
     pub pad-on : (r : ℕ) → Listed s (at + 1) seen r → Listed s at seen r
@@ -198,13 +198,13 @@ module _ (s : List ℕ) (at seen : ℕ) (inside : at < length s) where
       unfolding ListGives
       other-on fits most other r h = step s at (at + 2 + len) seen seen r to from h
         where
-          none : (rest : ItemList) → types (item (option at (u8At s at) len) rest) ≡ types rest
+          none : (rest : ItemList) → options53 (item (option at (u8At s at) len) rest) ≡ options53 rest
           none = types-other at (u8At s at) len other
 
           to : (type : ℕ) → ListGives s at seen type → ListGives s (at + 2 + len) seen type
           to type g =
               let o = behind (g .0) (g .1) in
-              (o .0, o .1, gives-same s seen type (g .0) (o .0) (ap types (o .2) ∙ none (o .0)) (g .2))
+              (o .0, o .1, gives-same s seen type (g .0) (o .0) (ap options53 (o .2) ∙ none (o .0)) (g .2))
 
           from : (type : ℕ) → ListGives s (at + 2 + len) seen type → ListGives s at seen type
           from type g =
@@ -212,17 +212,17 @@ module _ (s : List ℕ) (at seen : ℕ) (inside : at < length s) where
 
       -- option 53
       module _ (is-53 : u8At s at ≡ 53) where
-        first-type : (rest : ItemList) → types (item (option at (u8At s at) len) rest) ≡ option at 53 len ∷ types rest
+        first-type : (rest : ItemList) → options53 (item (option at (u8At s at) len) rest) ≡ option at 53 len ∷ options53 rest
         first-type = types-53 at (u8At s at) len is-53
 
         -- what it gives: nothing was seen before it, it has one byte, that gives the type, and none follows
         gives-first : (items rest : ItemList) (type : ℕ) → items ≡ item (option at (u8At s at) len) rest → Gives s seen items type
-            → (seen ≡ 0) × (len ≡ 1) × (type ≡ u8At s (at + 2)) × (1 ≤ type) × (type ≤ 8) × (types rest ≡ [])
-        gives-first items rest type e (before least f t) = absurd (no-cons (option at 53 len) (types rest) (sym t ∙ ap types e ∙ first-type rest))
+            → (seen ≡ 0) × (len ≡ 1) × (type ≡ u8At s (at + 2)) × (1 ≤ type) × (type ≤ 8) × (options53 rest ≡ [])
+        gives-first items rest type e (before least f t) = absurd (no-cons (option at 53 len) (options53 rest) (sym t ∙ ap options53 e ∙ first-type rest))
         gives-first items rest type e (within z p t v least most) =
-            let same = sym (ap types e ∙ first-type rest) ∙ t in
+            let same = sym (ap options53 e ∙ first-type rest) ∙ t in
             let place-is : at ≡ p = ap (λ (l : List Item). placeOf l) same in
-            (z, ap (λ (l : List Item). lengthOf l) same, v ∙ ap (λ (n : ℕ). u8At s (n + 2)) (sym place-is), least, most, tail-same (option at 53 len) (option p 53 1) (types rest) [] same)
+            (z, ap (λ (l : List Item). lengthOf l) same, v ∙ ap (λ (n : ℕ). u8At s (n + 2)) (sym place-is), least, most, tail-same (option at 53 len) (option p 53 1) (options53 rest) [] same)
 
         given : (type : ℕ) → ListGives s at seen type → (seen ≡ 0) × (len ≡ 1) × (type ≡ u8At s (at + 2)) × (1 ≤ type) × (type ≤ 8)
         unfolding ListGives
@@ -237,9 +237,9 @@ module _ (s : List ℕ) (at seen : ℕ) (inside : at < length s) where
         pub type-length : (len ≡ 1 → ⊥) → Listed s at seen 0
         type-length f = nothing s at seen (λ type g. f (given type g .1))
 
-        pub type-small : u8At s (at + 2) < 1 → Listed s at seen 0
+        pub type-small : u8At s (at + 2) ≡ 0 → Listed s at seen 0
         type-small h =
-            nothing s at seen (λ type g. let e = given type g .2 in let least = given type g .3 in omega (arith, e, least))
+            nothing s at seen (λ type g. let e = given type g .2 in let least = given type g .3 in omega (arith, h, e, least))
 
         pub type-large : 8 < u8At s (at + 2) → Listed s at seen 0
         type-large h =
@@ -258,7 +258,7 @@ module _ (s : List ℕ) (at seen : ℕ) (inside : at < length s) where
 
             gives : (rest : ItemList) (type : ℕ) → Gives s (u8At s (at + 2)) rest type → Gives s seen (item (option at (u8At s at) len) rest) type
             gives rest type (before l e t) =
-                within z at (first-type rest ∙ ap (λ (n : ℕ). option at 53 n ∷ types rest) one ∙ ap (λ (k : List Item). option at 53 1 ∷ k) t) e (subst (λ (n : ℕ). 1 ≤ n) (sym e) least) (subst (λ (n : ℕ). n ≤ 8) (sym e) most)
+                within z at (first-type rest ∙ ap (λ (n : ℕ). option at 53 n ∷ options53 rest) one ∙ ap (λ (k : List Item). option at 53 1 ∷ k) t) e (subst (λ (n : ℕ). 1 ≤ n) (sym e) least) (subst (λ (n : ℕ). n ≤ 8) (sym e) most)
             gives rest type (within e p t v l m) = absurd (not-suc-le-zero (subst (λ (n : ℕ). 1 ≤ n) e least))
 
             from : (type : ℕ) → ListGives s (at + 2 + len) (u8At s (at + 2)) type → ListGives s at seen type

@@ -1,17 +1,19 @@
 -- What a comparison tells that ends a test: both ways, by the comparison's two answers.
-use Prim.Native.Nat.{ℕ, _+_, _-_, _≤_}
-use mathlib.Core.Path.{_≡_, refl, sym, subst, ap, _∙_}
+use Prim.Native.Nat.{ℕ, _+_, _-_, _*_, _≤_}
+use mathlib.Core.Path.{_≡_, refl, sym, subst, ap, ap₂, _∙_}
 use mathlib.Core.Bool.{Bool, true, false, not}
 use mathlib.Core.Logic.{_⊎_, inl, inr}
 use mathlib.Core.List.{List, _++_}
-use native.Mathlib.Nat.{zero-add}
+use native.Mathlib.Nat.{zero-add, add-assoc}
 use native.Mathlib.Omega.{arith}
 use lib.Dec.{eqb}
 use lib.ListN.{length, take, drop}
 use Rattle.frames.proofs.Lists.{from-on}
 use borrow.Author.Tests.{eqb-true, eqb-false, not-true, not-false}
+use lib.Seq.{getD-drop}
+use Rattle.fields.specs.Bytes.{u8At, u16At}
 use Rattle.sums.specs.Rfc1071.{total, fold, SumsRight}
-use Rattle.reader.specs.Tells.{Tells}
+use Rattle.reader.specs.Helpers.{Tells}
 use Rattle.reader.specs.Grammar.{UDPSums, unsummed, summed, pseudoHeader, payload}
 
 pub tells-eq : {A : Type 0} (m n : ℕ) → (m ≡ n → A) → (A → m ≡ n) → Tells (eqb m n) A
@@ -74,3 +76,15 @@ at-most-2 x (inr e) = omega arith
 pub has-to-sum : (p : List ℕ) (checksum : ℕ) → UDPSums p checksum → (checksum ≡ 0 → ⊥) → SumsRight (pseudoHeader p ++ payload p)
 has-to-sum p checksum (unsummed e) f = absurd (f e)
 has-to-sum p checksum (summed g right) f = right
+
+-- a byte and a number of the part behind `h`, read in the whole
+pub byte-behind : (s : List ℕ) (r h n : ℕ) → r ≡ h → u8At s (r + n) ≡ u8At (drop h s) n
+byte-behind s r h n e = ap (λ (k : ℕ). u8At s (k + n)) e ∙ sym (getD-drop h s n 0)
+
+pub word-behind : (s : List ℕ) (r h n : ℕ) → r ≡ h → u16At s (r + n) ≡ u16At (drop h s) n
+word-behind s r h n e =
+    ap₂ (λ (a b : ℕ). a * 256 + b) (byte-behind s r h n e) (ap (u8At s) (add-assoc r n 1) ∙ byte-behind s r h (n + 1) e)
+
+-- what is told of a slice from `n` on is told of the part
+pub of-rest : (A : List ℕ → Type 0) (n : ℕ) (s : List ℕ) (b : Bool) → Tells b (A (take (length s - n) (drop n s))) → Tells b (A (drop n s))
+of-rest A n s b t = subst (λ (m : List ℕ). Tells b (A m)) (from-on n s) t

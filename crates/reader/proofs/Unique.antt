@@ -8,8 +8,7 @@ use lib.Dec.{eqb}
 use lib.ListN.{length, drop, replicate, length-replicate}
 use borrow.Author.Tests.{eqb-false}
 use Rattle.fields.specs.Bytes.{u8At, u16At}
-use Rattle.reader.specs.Grammar
-use Rattle.reader.specs.Grammar.{Layer, Item, pad, option, ItemList, END, item, Derivation, arp, other, icmp, udp, dhcp, tcp, layer, body, headerLength, payload, payloadAt, protocol, OtherIPv4, CarriesDHCP, DHCP, IsList, Derives}
+use Rattle.reader.specs.Grammar.{Layer, Item, pad, option, ItemList, END, item, IsList, Derivation, arp, other, icmp, udp, dhcp, tcp, body, protocol, dataOffset, OtherIPv4, CarriesDHCP, ethernetLayer, ipLayer, payloadLayer, dataAt, messageLayer, Derives}
 use Rattle.reader.proofs.Items.{Starts, ends, pads, opts, starts, list-nil, head-same, tail-same}
 
 -- two numbers in one place
@@ -73,44 +72,27 @@ module _ (s : List ℕ) where
   abbrev p : List ℕ
   p = body s
 
-  -- the layers of any frame
-  abbrev ethernet : Layer
-  ethernet = layer 0 14 s
+  -- with its layers each derivation is the only one of its kind, but for a DHCP list
+  canonical : Derivation → Derivation
+  canonical (arp e) = arp (ethernetLayer s)
+  canonical (other e i) = other (ethernetLayer s) (ipLayer s)
+  canonical (icmp e i m) = icmp (ethernetLayer s) (ipLayer s) (payloadLayer 8 s)
+  canonical (udp e i u) = udp (ethernetLayer s) (ipLayer s) (payloadLayer 8 s)
+  canonical (dhcp e i u m items) = dhcp (ethernetLayer s) (ipLayer s) (payloadLayer 8 s) (messageLayer s) items
+  canonical (tcp e i g) = tcp (ethernetLayer s) (ipLayer s) (payloadLayer (dataOffset p * 4) s)
 
-  abbrev ip : Layer
-  ip = layer 14 (headerLength p) p
-
-  abbrev eight : Layer
-  eight = layer (payloadAt p) 8 (payload p)
-
-  abbrev segment : Layer
-  segment = layer (payloadAt p) (u8At (payload p) 12 / 16 * 4) (payload p)
-
-  abbrev message : Layer
-  message = layer (payloadAt p + 8) 240 (drop 8 (payload p))
-
-  -- what each kind's derivation has to be
-  canonical : (d : Derivation) → Derives s d → Derivation
-  canonical (arp e) h = arp ethernet
-  canonical (other e i) h = other ethernet ip
-  canonical (icmp e i m) h = icmp ethernet ip eight
-  canonical (udp e i u) h = udp ethernet ip eight
-  canonical (dhcp e i u m items) h = dhcp ethernet ip eight message items
-  canonical (tcp e i t) h = tcp ethernet ip segment
-
-  is-canonical : (d : Derivation) (h : Derives s d) → d ≡ canonical d h
+  is-canonical : (d : Derivation) → Derives s d → d ≡ canonical d
   unfolding Derives canonical
-  is-canonical (arp e) h = ap arp (h .0 .split)
-  is-canonical (other e i) h = ap₂ other (h .0 .split) (h .1 .split)
-  is-canonical (icmp e i m) h = ap₂ (λ (a b : Layer). icmp a b m) (h .0 .split) (h .1 .split) ∙ ap (icmp ethernet ip) (h .2 .split)
-  is-canonical (udp e i u) h = ap₂ (λ (a b : Layer). udp a b u) (h .0 .split) (h .1 .split) ∙ ap (udp ethernet ip) (h .2 .split)
+  is-canonical (arp e) h = ap arp (h .2)
+  is-canonical (other e i) h = ap₂ other (h .3) (h .4)
+  is-canonical (icmp e i m) h = ap₂ (λ (a b : Layer). icmp a b m) (h .3) (h .4) ∙ ap (icmp (ethernetLayer s) (ipLayer s)) (h .5)
+  is-canonical (udp e i u) h = ap₂ (λ (a b : Layer). udp a b u) (h .3) (h .4) ∙ ap (udp (ethernetLayer s) (ipLayer s)) (h .5)
   is-canonical (dhcp e i u m items) h =
-      ap₂ (λ (a b : Layer). dhcp a b u m items) (h .0 .split) (h .1 .split)
-      ∙ ap₂ (λ (a b : Layer). dhcp ethernet ip a b items) (h .2 .split) (h .4 .split)
-  is-canonical (tcp e i t) h = ap₂ (λ (a b : Layer). tcp a b t) (h .0 .split) (h .1 .split) ∙ ap (tcp ethernet ip) (h .2 .split)
+      ap₂ (λ (a b : Layer). dhcp a b u m items) (h .3) (h .4) ∙ ap₂ (λ (a b : Layer). dhcp (ethernetLayer s) (ipLayer s) a b items) (h .5) (h .8)
+  is-canonical (tcp e i g) h = ap₂ (λ (a b : Layer). tcp a b g) (h .3) (h .4) ∙ ap (tcp (ethernetLayer s) (ipLayer s)) (h .5)
 
-  -- an ARP frame's derivation
-  pub arp-only : (d : Derivation) → Derives s d → u16At s 12 ≡ 0x0806 → d ≡ arp ethernet
+  -- its type, protocol and ports say which kind a frame is derived as
+  arp-only : (d : Derivation) → Derives s d → u16At s 12 ≡ 0x0806 → d ≡ arp (ethernetLayer s)
   unfolding Derives canonical
   arp-only (arp e) h t = is-canonical (arp e) h
   arp-only (other e i) h t = absurd (clash (u16At s 12) 0x0800 0x0806 refl (h .0 .typed) t)
@@ -119,7 +101,7 @@ module _ (s : List ℕ) where
   arp-only (dhcp e i u m items) h t = absurd (clash (u16At s 12) 0x0800 0x0806 refl (h .0 .typed) t)
   arp-only (tcp e i g) h t = absurd (clash (u16At s 12) 0x0800 0x0806 refl (h .0 .typed) t)
 
-  pub icmp-only : (d : Derivation) → Derives s d → u16At s 12 ≡ 0x0800 → protocol p ≡ 1 → d ≡ icmp ethernet ip eight
+  pub icmp-only : (d : Derivation) → Derives s d → u16At s 12 ≡ 0x0800 → protocol p ≡ 1 → d ≡ icmp (ethernetLayer s) (ipLayer s) (payloadLayer 8 s)
   unfolding Derives canonical
   icmp-only (arp e) h t c = absurd (clash (u16At s 12) 0x0806 0x0800 refl (h .0 .typed) t)
   icmp-only (other e i) h t c = absurd (h .2 .no-icmp c)
@@ -128,7 +110,7 @@ module _ (s : List ℕ) where
   icmp-only (dhcp e i u m items) h t c = absurd (clash (protocol p) 17 1 refl (h .2 .carried) c)
   icmp-only (tcp e i g) h t c = absurd (clash (protocol p) 6 1 refl (h .2 .carried) c)
 
-  pub tcp-only : (d : Derivation) → Derives s d → u16At s 12 ≡ 0x0800 → protocol p ≡ 6 → d ≡ tcp ethernet ip segment
+  pub tcp-only : (d : Derivation) → Derives s d → u16At s 12 ≡ 0x0800 → protocol p ≡ 6 → d ≡ tcp (ethernetLayer s) (ipLayer s) (payloadLayer (dataOffset p * 4) s)
   unfolding Derives canonical
   tcp-only (arp e) h t c = absurd (clash (u16At s 12) 0x0806 0x0800 refl (h .0 .typed) t)
   tcp-only (other e i) h t c = absurd (h .2 .no-tcp c)
@@ -137,7 +119,7 @@ module _ (s : List ℕ) where
   tcp-only (dhcp e i u m items) h t c = absurd (clash (protocol p) 17 6 refl (h .2 .carried) c)
   tcp-only (tcp e i g) h t c = is-canonical (tcp e i g) h
 
-  pub other-only : (d : Derivation) → Derives s d → u16At s 12 ≡ 0x0800 → OtherIPv4 p → d ≡ other ethernet ip
+  other-only : (d : Derivation) → Derives s d → u16At s 12 ≡ 0x0800 → OtherIPv4 p → d ≡ other (ethernetLayer s) (ipLayer s)
   unfolding Derives canonical
   other-only (arp e) h t c = absurd (clash (u16At s 12) 0x0806 0x0800 refl (h .0 .typed) t)
   other-only (other e i) h t c = is-canonical (other e i) h
@@ -146,22 +128,23 @@ module _ (s : List ℕ) where
   other-only (dhcp e i u m items) h t c = absurd (c .no-udp (h .2 .carried))
   other-only (tcp e i g) h t c = absurd (c .no-tcp (h .2 .carried))
 
-  pub udp-only : (d : Derivation) → Derives s d → u16At s 12 ≡ 0x0800 → protocol p ≡ 17 → (CarriesDHCP (payload p) → ⊥) → d ≡ udp ethernet ip eight
+  udp-only : (d : Derivation) → Derives s d → u16At s 12 ≡ 0x0800 → protocol p ≡ 17 → (CarriesDHCP p → ⊥)
+      → d ≡ udp (ethernetLayer s) (ipLayer s) (payloadLayer 8 s)
   unfolding Derives canonical
   udp-only (arp e) h t c f = absurd (clash (u16At s 12) 0x0806 0x0800 refl (h .0 .typed) t)
   udp-only (other e i) h t c f = absurd (h .2 .no-udp c)
   udp-only (icmp e i m) h t c f = absurd (clash (protocol p) 1 17 refl (h .2 .carried) c)
   udp-only (udp e i u) h t c f = is-canonical (udp e i u) h
-  udp-only (dhcp e i u m items) h t c f = absurd (f (h .3))
+  udp-only (dhcp e i u m items) h t c f = absurd (f (h .6))
   udp-only (tcp e i g) h t c f = absurd (clash (protocol p) 6 17 refl (h .2 .carried) c)
 
-  pub dhcp-only : (d : Derivation) → Derives s d → u16At s 12 ≡ 0x0800 → protocol p ≡ 17 → CarriesDHCP (payload p)
-      → (items : ItemList) × (d ≡ dhcp ethernet ip eight message items)
+  pub dhcp-only : (d : Derivation) → Derives s d → u16At s 12 ≡ 0x0800 → protocol p ≡ 17 → CarriesDHCP p
+      → (items : ItemList) × (d ≡ dhcp (ethernetLayer s) (ipLayer s) (payloadLayer 8 s) (messageLayer s) items)
   unfolding Derives canonical
   dhcp-only (arp e) h t c f = absurd (clash (u16At s 12) 0x0806 0x0800 refl (h .0 .typed) t)
   dhcp-only (other e i) h t c f = absurd (h .2 .no-udp c)
   dhcp-only (icmp e i m) h t c f = absurd (clash (protocol p) 1 17 refl (h .2 .carried) c)
-  dhcp-only (udp e i u) h t c f = absurd (h .3 f)
+  dhcp-only (udp e i u) h t c f = absurd (h .6 f)
   dhcp-only (dhcp e i u m items) h t c f = (items, is-canonical (dhcp e i u m items) h)
   dhcp-only (tcp e i g) h t c f = absurd (clash (protocol p) 6 17 refl (h .2 .carried) c)
 
@@ -171,11 +154,12 @@ module _ (s : List ℕ) where
   unique (arp a) e h k = is-canonical (arp a) h ∙ sym (arp-only e k (h .0 .typed))
   unique (other a i) e h k = is-canonical (other a i) h ∙ sym (other-only e k (h .0 .typed) (h .2))
   unique (icmp a i m) e h k = is-canonical (icmp a i m) h ∙ sym (icmp-only e k (h .0 .typed) (h .2 .carried))
-  unique (udp a i u) e h k = is-canonical (udp a i u) h ∙ sym (udp-only e k (h .0 .typed) (h .2 .carried) (h .3))
+  unique (udp a i u) e h k = is-canonical (udp a i u) h ∙ sym (udp-only e k (h .0 .typed) (h .2 .carried) (h .6))
   unique (dhcp a i u m items) e h k =
-      let o = dhcp-only e k (h .0 .typed) (h .2 .carried) (h .3) in
+      let o = dhcp-only e k (h .0 .typed) (h .2 .carried) (h .6) in
       let k′ = subst (Derives s) (o .1) k in
       is-canonical (dhcp a i u m items) h
-      ∙ ap (dhcp ethernet ip eight message) (list-unique items (payloadAt p + 8 + 240) (drop 240 (drop 8 (payload p))) (o .0) (h .4 .list) (k′ .4 .list))
+      ∙ ap (dhcp (ethernetLayer s) (ipLayer s) (payloadLayer 8 s) (messageLayer s))
+      (list-unique items (dataAt s + 240) (drop (dataAt s + 240) s) (o .0) (h .7 .list) (k′ .7 .list))
       ∙ sym (o .1)
   unique (tcp a i g) e h k = is-canonical (tcp a i g) h ∙ sym (tcp-only e k (h .0 .typed) (h .2 .carried))

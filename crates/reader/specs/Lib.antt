@@ -1,5 +1,4 @@
-pub mod Tells
 pub mod Grammar
-pub mod Steps
 pub mod Report
-pub mod Walked
+pub mod Helpers
+pub mod Messages

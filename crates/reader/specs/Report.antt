@@ -4,7 +4,7 @@ use Prim.Native.Nat.{ℕ, _+_}
 use mathlib.Core.Path.{_≡_}
 use mathlib.Core.List.{List, [], _∷_}
 use Rattle.fields.specs.Bytes.{u8At}
-use Rattle.reader.specs.Grammar.{Layer, Item, pad, option, ItemList, Derivation, arp, other, icmp, udp, dhcp, tcp, types, Derives}
+use Rattle.reader.specs.Grammar.{Layer, Item, pad, option, Derivation, arp, other, icmp, udp, dhcp, tcp, options53, Derives}
 use Rattle.reader.specs.declared.parts.Reading.{Reading}
 use Rattle.reader.specs.declared.parts.Reading.the-variants.{Arp, OtherIpv4, Icmp, Udp, Dhcp, Tcp, Outside}
 use Rattle.reader.specs.declared.parts.Layer.{Layer as Parts·Layer}
@@ -31,7 +31,7 @@ partsOf frame (other ethernet ip) = parts OtherIPv4 (ethernet ∷ ip ∷ []) []
 partsOf frame (icmp ethernet ip message) = parts ICMP (ethernet ∷ ip ∷ message ∷ []) []
 partsOf frame (udp ethernet ip datagram) = parts UDP (ethernet ∷ ip ∷ datagram ∷ []) []
 partsOf frame (dhcp ethernet ip datagram message items) =
-    parts DHCP (ethernet ∷ ip ∷ datagram ∷ message ∷ []) (values frame (types items))
+    parts DHCP (ethernet ∷ ip ∷ datagram ∷ message ∷ []) (values frame (options53 items))
 partsOf frame (tcp ethernet ip segment) = parts TCP (ethernet ∷ ip ∷ segment ∷ []) []
 
 -- The promise of the reader: the parts of a derivation, or 8 where the frame has none.
@@ -39,9 +39,9 @@ pub data Reads (frame : List ℕ) (answer : Report) : Type 0 where
   takes : (d : Derivation) → Derives frame d → answer ≡ partsOf frame d → Reads frame answer
   refuses : answer ≡ refused 8 → ((d : Derivation) → Derives frame d → ⊥) → Reads frame answer
 
--- what the code's layer says
-abbrev pub span : Parts·Layer → Layer
-span l =
+-- the code's layer
+abbrev pub layerOf : Parts·Layer → Layer
+layerOf l =
     record {
       header = record { start = l .header; stop = l .payload };
       payload = record { start = l .payload; stop = l .stop };
@@ -49,11 +49,11 @@ span l =
 
 -- what the code's answer says
 unfoldable pub told : Reading → Report
-told (Arp ethernet) = parts ARP (span ethernet ∷ []) []
-told (OtherIpv4 ethernet ip) = parts OtherIPv4 (span ethernet ∷ span ip ∷ []) []
-told (Icmp ethernet ip message) = parts ICMP (span ethernet ∷ span ip ∷ span message ∷ []) []
-told (Udp ethernet ip datagram) = parts UDP (span ethernet ∷ span ip ∷ span datagram ∷ []) []
+told (Arp ethernet) = parts ARP (layerOf ethernet ∷ []) []
+told (OtherIpv4 ethernet ip) = parts OtherIPv4 (layerOf ethernet ∷ layerOf ip ∷ []) []
+told (Icmp ethernet ip message) = parts ICMP (layerOf ethernet ∷ layerOf ip ∷ layerOf message ∷ []) []
+told (Udp ethernet ip datagram) = parts UDP (layerOf ethernet ∷ layerOf ip ∷ layerOf datagram ∷ []) []
 told (Dhcp ethernet ip datagram message type) =
-    parts DHCP (span ethernet ∷ span ip ∷ span datagram ∷ span message ∷ []) (type ∷ [])
-told (Tcp ethernet ip segment) = parts TCP (span ethernet ∷ span ip ∷ span segment ∷ []) []
+    parts DHCP (layerOf ethernet ∷ layerOf ip ∷ layerOf datagram ∷ layerOf message ∷ []) (type ∷ [])
+told (Tcp ethernet ip segment) = parts TCP (layerOf ethernet ∷ layerOf ip ∷ layerOf segment ∷ []) []
 told Outside = refused 8

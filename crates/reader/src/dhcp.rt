@@ -1,17 +1,17 @@
 // A DHCP message: RFC 2131, and its list of options, RFC 2132. The list reader calls the item reader,
-// which calls the list reader on what remains.
+// which calls the list reader on what remains: at most 1,232 bytes, so the calls are at most 2,465 deep.
 ghost use mathlib.Core.Path.{_≡_};
-ghost use Prim.Native.Nat.{_≤_, _<_};
+ghost use Prim.Native.Nat.{_+_, _≤_, _<_};
 ghost use lib.ListN.{length, drop};
 ghost use Rattle.fields.specs.Bytes.{u8At};
-ghost use Rattle.reader.specs.Steps.{AllZero};
-ghost use Rattle.reader.specs.Tells.{Tells};
-ghost use Rattle.reader.specs.Walked.{FixedFields, Listed, MessageRead};
+ghost use Rattle.reader.specs.Grammar.{DHCPHeader};
+ghost use Rattle.reader.specs.Helpers.{AllZero, Tells};
+ghost use Rattle.reader.specs.Messages.{Listed, MessageRead};
 use fields::byte_at;
 use fields::u32be;
 
 // The fixed fields and the cookie.
-const HEADER: usize = 240;
+pub const HEADER: usize = 240;
 
 const LONGEST: usize = 1472;
 
@@ -47,15 +47,15 @@ pub fn read_message(frame: &[u8], at: usize) -> u8
     requires { ⌜ at ≤ length (now frame) ⌝ }
     ensures { λ r. ⌜ MessageRead (now (frame .entry)) at r ⌝ }
 {
-    if !has_fixed_fields(&frame[at..]) {
+    if !has_header(&frame[at..]) {
         return 0;
     }
-    list(frame, at + HEADER, 0)
+    read_list(frame, at + HEADER, 0)
 }
 
-// Whether what stands before the list is right, and the length of all of it.
-fn has_fixed_fields(message: &[u8]) -> bool
-    ensures { λ r. ⌜ Tells r (FixedFields (now (message .entry))) ⌝ }
+// Whether what stands before the list is right, and the length of the whole message.
+fn has_header(message: &[u8]) -> bool
+    ensures { λ r. ⌜ Tells r (DHCPHeader (now (message .entry))) ⌝ }
 {
     let len = message.len();
     if len < HEADER {
@@ -82,14 +82,15 @@ fn has_fixed_fields(message: &[u8]) -> bool
 
 // The message type by the list from `at` on, which runs to the end of the frame; an option 53 before it
 // said `seen`, 0 where there was none. 0 where there is no such list, or not one type.
-pub fn list(frame: &[u8], at: usize, seen: u8) -> u8
+fn read_list(frame: &[u8], at: usize, seen: u8) -> u8
+    requires { ⌜ length (now frame) ≤ at + 1232 ⌝ }
     ensures { λ r. ⌜ Listed (now (frame .entry)) at seen r ⌝ }
 {
     if frame.len() <= at {
         return 0;
     }
     if byte_at(frame, at) != END {
-        return item(frame, at, seen);
+        return read_item(frame, at, seen);
     }
     if !zeros(frame, at + 1) {
         return 0;
@@ -98,14 +99,15 @@ pub fn list(frame: &[u8], at: usize, seen: u8) -> u8
 }
 
 // The same where the list starts with an item.
-fn item(frame: &[u8], at: usize, seen: u8) -> u8
+fn read_item(frame: &[u8], at: usize, seen: u8) -> u8
     requires { ⌜ at < length (now frame) ⌝ }
+    requires { ⌜ length (now frame) ≤ at + 1232 ⌝ }
     requires { ⌜ (u8At (now frame) at ≡ 255 → ⊥) ⌝ }
     ensures { λ r. ⌜ Listed (now (frame .entry)) at seen r ⌝ }
 {
     let code = byte_at(frame, at);
     if code == PAD {
-        return list(frame, at + 1, seen);
+        return read_list(frame, at + 1, seen);
     }
     let left = frame.len() - at;
     if left < 2 {
@@ -116,7 +118,7 @@ fn item(frame: &[u8], at: usize, seen: u8) -> u8
         return 0;
     }
     if code != MESSAGE_TYPE {
-        return list(frame, at + 2 + len, seen);
+        return read_list(frame, at + 2 + len, seen);
     }
     if seen != 0 {
         return 0;
@@ -125,13 +127,13 @@ fn item(frame: &[u8], at: usize, seen: u8) -> u8
         return 0;
     }
     let value = byte_at(frame, at + 2);
-    if value < 1 {
+    if value == 0 {
         return 0;
     }
     if 8 < value {
         return 0;
     }
-    list(frame, at + 3, value)
+    read_list(frame, at + 3, value)
 }
 
 // Whether all bytes from `from` on are 0.
@@ -148,6 +150,7 @@ fn zeros(frame: &[u8], from: usize) -> bool
     true
 }
 
+// A byte as a length, with its bound.
 fn widened(byte: u8) -> usize
     ensures { λ r. ⌜ (r ≡ byte) × (r < 256) ⌝ }
 {

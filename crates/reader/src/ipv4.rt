@@ -1,9 +1,8 @@
 // The IPv4 header: RFC 791, section 3.1.
 ghost use mathlib.Core.Path.{_≡_};
 ghost use Prim.Native.Nat.{_≤_};
-ghost use Rattle.reader.specs.Steps.{Whole};
-ghost use Rattle.reader.specs.Grammar.{IPv4, headerLength, layer};
-ghost use Rattle.reader.specs.Tells.{Tells};
+ghost use Rattle.reader.specs.Grammar.{IPv4, Unfragmented, headerLength};
+ghost use Rattle.reader.specs.Helpers.{Tells};
 use fields::byte_at;
 use fields::u16be;
 use sums::sum;
@@ -13,16 +12,22 @@ const SHORTEST: usize = 20;
 // Fields.
 const VERSION_AND_LENGTH: usize = 0;
 
-const TOTAL_LENGTH: usize = 2;
+pub const TOTAL_LENGTH: usize = 2;
 
 const FLAGS_AND_OFFSET: usize = 6;
+
+pub const PROTOCOL: usize = 9;
+
+pub const SOURCE: usize = 12;
+
+pub const TARGET: usize = 16;
 
 // What right bytes sum to, their checksum included.
 pub const SUMS_RIGHT: u16 = 65535;
 
 // Whether `packet` is all of an IPv4 packet with a right header.
 pub fn is_ipv4(packet: &[u8]) -> bool
-    ensures { λ r. ⌜ Tells r (IPv4 (now (packet .entry)) (layer 14 (headerLength (now (packet .entry))) (now (packet .entry)))) ⌝ }
+    ensures { λ r. ⌜ Tells r (IPv4 (now (packet .entry))) ⌝ }
 {
     if byte_at(packet, VERSION_AND_LENGTH) >> 4 != 4 {
         return false;
@@ -38,7 +43,7 @@ pub fn is_ipv4(packet: &[u8]) -> bool
     if total < header {
         return false;
     }
-    if !is_whole(packet) {
+    if !is_unfragmented(packet) {
         return false;
     }
     let bytes = &packet[..header];
@@ -53,8 +58,8 @@ pub fn header_length(packet: &[u8]) -> usize
 }
 
 // Whether the reserved bit is 0 and the packet no fragment.
-fn is_whole(packet: &[u8]) -> bool
-    ensures { λ r. ⌜ Tells r (Whole (now (packet .entry))) ⌝ }
+fn is_unfragmented(packet: &[u8]) -> bool
+    ensures { λ r. ⌜ Tells r (Unfragmented (now (packet .entry))) ⌝ }
 {
     let fragment = u16be(packet, FLAGS_AND_OFFSET);
     let reserved = fragment >> 15;

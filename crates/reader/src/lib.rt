@@ -3,8 +3,7 @@
 ghost use mathlib.Core.Path.{_≡_};
 ghost use Prim.Native.Nat.{_≤_};
 ghost use lib.ListN.{length};
-ghost use Rattle.fields.specs.Bytes.{u16At};
-ghost use Rattle.reader.specs.Grammar.{IPv4, body, headerLength, layer as Grammar·layer};
+ghost use Rattle.reader.specs.Grammar.{Ethernet, IPv4, body};
 ghost use Rattle.reader.specs.Report.{Reads, told};
 
 mod arp;
@@ -26,19 +25,11 @@ const ETHERTYPE_ARP: u16 = 0x0806;
 
 const ETHERTYPE_IP: u16 = 0x0800;
 
-const IP_PROTOCOL: usize = 9;
-
 const ICMP: u8 = 1;
 
 const TCP: u8 = 6;
 
 const UDP: u8 = 17;
-
-const ICMP_HEADER: usize = 8;
-
-const UDP_HEADER: usize = 8;
-
-const DHCP_HEADER: usize = 240;
 
 // The parts of `frame`, or that it is outside the grammar.
 pub fn read(frame: &[u8]) -> Reading
@@ -73,9 +64,8 @@ pub fn read(frame: &[u8]) -> Reading
 
 // The same of a frame whose IPv4 header is right.
 fn read_payload(frame: &[u8]) -> Reading
-    requires { ⌜ 14 ≤ length (now frame) ⌝ }
-    requires { ⌜ u16At (now frame) 12 ≡ 0x0800 ⌝ }
-    requires { ⌜ IPv4 (body (now frame)) (Grammar·layer 14 (headerLength (body (now frame))) (body (now frame))) ⌝ }
+    requires { ⌜ Ethernet (now frame) 0x0800 ⌝ }
+    requires { ⌜ IPv4 (body (now frame)) ⌝ }
     ensures { λ r. ⌜ Reads (now (frame .entry)) (told r) ⌝ }
 {
     let stop = frame.len();
@@ -91,7 +81,7 @@ fn read_payload(frame: &[u8]) -> Reading
         payload: start,
         stop,
     };
-    let protocol = byte_at(packet, IP_PROTOCOL);
+    let protocol = byte_at(packet, ipv4::PROTOCOL);
     if protocol == ICMP {
         if !payloads::is_icmp(packet) {
             return Reading::Outside;
@@ -101,7 +91,7 @@ fn read_payload(frame: &[u8]) -> Reading
             ip,
             message: Layer {
                 header: start,
-                payload: start + ICMP_HEADER,
+                payload: start + payloads::ICMP_HEADER,
                 stop,
             },
         };
@@ -115,7 +105,7 @@ fn read_payload(frame: &[u8]) -> Reading
             ip,
             segment: Layer {
                 header: start,
-                payload: start + payloads::tcp_offset(&frame[start..]),
+                payload: start + payloads::tcp_header_length(packet),
                 stop,
             },
         };
@@ -126,13 +116,13 @@ fn read_payload(frame: &[u8]) -> Reading
     if !payloads::is_udp(packet) {
         return Reading::Outside;
     }
-    let data = start + UDP_HEADER;
+    let data = start + payloads::UDP_HEADER;
     let datagram = Layer {
         header: start,
         payload: data,
         stop,
     };
-    if !payloads::carries_dhcp(&frame[start..]) {
+    if !payloads::carries_dhcp(packet) {
         return Reading::Udp {
             ethernet,
             ip,
@@ -149,7 +139,7 @@ fn read_payload(frame: &[u8]) -> Reading
         datagram,
         message: Layer {
             header: data,
-            payload: data + DHCP_HEADER,
+            payload: data + dhcp::HEADER,
             stop,
         },
         message_type,

@@ -1,12 +1,10 @@
 -- `read` meets its contract: the laws of `Answers`, at the packet as the code takes it.
 use borrow.Author.Needs.{needs}
-use mathlib.Core.Path.{sym, subst, _∙_}
 use Prim.Native.Nat.{ℕ}
+use mathlib.Core.Path.{sym, _∙_}
 use mathlib.Core.List.{List}
-use Rattle.frames.proofs.Lists.{from-on}
-use Rattle.reader.specs.Grammar.{ARP, IPv4, layer, body, headerLength}
-use Rattle.reader.specs.Tells.{Tells}
-use Rattle.reader.proofs.Telling.{tells-not, tells-yes}
+use Rattle.reader.specs.Grammar.{ARP, IPv4, body}
+use Rattle.reader.proofs.Telling.{tells-not, tells-yes, of-rest}
 use Rattle.reader.proofs.Answers.{short-frame, no-arp, arp-taken, no-ipv4}
 use Rattle.reader.proofs.read.Statement.{statement}
 use Rattle.reader.proofs.read.Tie as tie
@@ -32,14 +30,12 @@ is-arp-requires c κs = search needs
 returns-2 : tie.Need-returns-2
 returns-2 c =
     let s : List ℕ = c .before .before .before .before .before .before .before .args .frame .now in
-    let packet = from-on 14 s in
-    no-arp s (sym (c .before .before .before .before .u16be .ensures) ∙ c .before .before .if2 .taken) (tells-not {A = ARP (body s)} (c .before .is-arp .result) (subst (λ (m : List ℕ). Tells (c .before .is-arp .result) (ARP m)) packet (c .before .is-arp .ensures)) (c .if3 .taken))
+    no-arp s (sym (c .before .before .before .before .u16be .ensures) ∙ c .before .before .if2 .taken) (tells-not {A = ARP (body s)} (c .before .is-arp .result) (of-rest ARP 14 s (c .before .is-arp .result) (c .before .is-arp .ensures)) (c .if3 .taken))
 
 returns-3 : tie.Need-returns-3
 returns-3 c =
     let s : List ℕ = c .before .before .before .before .before .before .before .args .frame .now in
-    let packet = from-on 14 s in
-    arp-taken s (c .before .before .before .before .before .if1 .left) (sym (c .before .before .before .before .u16be .ensures) ∙ c .before .before .if2 .taken) (tells-yes {A = ARP (body s)} (c .before .is-arp .result) (subst (λ (m : List ℕ). Tells (c .before .is-arp .result) (ARP m)) packet (c .before .is-arp .ensures)) (c .if3 .left))
+    arp-taken s (c .before .before .before .before .before .if1 .left) (sym (c .before .before .before .before .u16be .ensures) ∙ c .before .before .if2 .taken) (tells-yes {A = ARP (body s)} (c .before .is-arp .result) (of-rest ARP 14 s (c .before .is-arp .result) (c .before .is-arp .ensures)) (c .if3 .left))
 
 returns-4 : tie.Need-returns-4
 returns-4 c = no-ipv4 (c .before .before .before .before .before .before .args .frame .now) (λ e. c .before .if2 .left (c .before .before .before .u16be .ensures ∙ e)) (λ e i. c .if4 .taken (c .before .before .before .u16be .ensures ∙ e))
@@ -50,14 +46,12 @@ is-ipv4-requires c κs = search needs
 returns-5 : tie.Need-returns-5
 returns-5 c =
     let s : List ℕ = c .before .before .before .before .before .before .before .before .args .frame .now in
-    let packet = from-on 14 s in
-    no-ipv4 s (λ e. c .before .before .before .if2 .left (c .before .before .before .before .before .u16be .ensures ∙ e)) (λ e. (tells-not {A = IPv4 (body s) (layer 14 (headerLength (body s)) (body s))} (c .before .is-ipv4 .result) (subst (λ (m : List ℕ). Tells (c .before .is-ipv4 .result) (IPv4 m (layer 14 (headerLength m) m))) packet (c .before .is-ipv4 .ensures)) (c .if5 .taken)))
+    no-ipv4 s (λ e. c .before .before .before .if2 .left (c .before .before .before .before .before .u16be .ensures ∙ e)) (λ e. (tells-not {A = IPv4 (body s)} (c .before .is-ipv4 .result) (of-rest IPv4 14 s (c .before .is-ipv4 .result) (c .before .is-ipv4 .ensures)) (c .if5 .taken)))
 
 read-payload-requires : tie.Need-read-payload-requires
 read-payload-requires c κs =
     let s : List ℕ = c .before .before .before .before .before .before .before .before .args .frame .now in
-    let packet = from-on 14 s in
-    (c .before .before .before .before .before .before .if1 .left, (sym (c .before .before .before .before .before .u16be .ensures) ∙ c .before .before .if4 .left, (tells-yes {A = IPv4 (body s) (layer 14 (headerLength (body s)) (body s))} (c .before .is-ipv4 .result) (subst (λ (m : List ℕ). Tells (c .before .is-ipv4 .result) (IPv4 m (layer 14 (headerLength m) m))) packet (c .before .is-ipv4 .ensures)) (c .if5 .left))))
+    (record { whole = c .before .before .before .before .before .before .if1 .left; typed = sym (c .before .before .before .before .before .u16be .ensures) ∙ c .before .before .if4 .left }, (tells-yes {A = IPv4 (body s)} (c .before .is-ipv4 .result) (of-rest IPv4 14 s (c .before .is-ipv4 .result) (c .before .is-ipv4 .ensures)) (c .if5 .left)))
 
 returns-6 : tie.Need-returns-6
 returns-6 c = search needs

@@ -41,7 +41,7 @@ returns-6 c =
     record {
       size = search needs;
       hardware = search needs;
-      protocol = search needs;
+      protocol-type = search needs;
       hardware-length = search needs;
       protocol-length = search needs;
       operation = inl (search needs);
@@ -53,7 +53,7 @@ returns-7 c =
     (λ e. record {
       size = search needs;
       hardware = search needs;
-      protocol = search needs;
+      protocol-type = search needs;
       hardware-length = search needs;
       protocol-length = search needs;
       operation = inr (search needs);

@@ -1,56 +1,58 @@
 -- `read_message` meets its contract: the laws of `Messages`, at the slice from `at` on.
 use borrow.Author.Needs.{needs}
 use Prim.Native.Nat.{ℕ}
-use mathlib.Core.Path.{subst}
 use mathlib.Core.List.{List}
-use Rattle.frames.proofs.Lists.{from-on}
-use lib.ListN.{drop}
-use Rattle.reader.specs.Tells.{Tells}
-use Rattle.reader.specs.Walked.{FixedFields}
-use Rattle.reader.proofs.Telling.{tells-not, tells-yes}
+use native.Mathlib.Omega.{arith}
+use lib.ListN.{drop, length-drop}
+use Rattle.reader.specs.Grammar.{DHCPHeader}
+use Rattle.reader.proofs.Telling.{tells-not, tells-yes, of-rest}
 use Rattle.reader.proofs.Messages.{no-message, message-read}
 use Rattle.reader.proofs.dhcp.read_message.Statement.{statement}
 use Rattle.reader.proofs.dhcp.read_message.Tie as tie
 
-sub-has-fixed-fields : tie.Need-sub-has-fixed-fields
-sub-has-fixed-fields c = search needs
+sub-has-header : tie.Need-sub-has-header
+sub-has-header c = search needs
 
-part-has-fixed-fields-start : tie.Need-part-has-fixed-fields-start
-part-has-fixed-fields-start c = search needs
+part-has-header-start : tie.Need-part-has-header-start
+part-has-header-start c = search needs
 
-part-has-fixed-fields-end : tie.Need-part-has-fixed-fields-end
-part-has-fixed-fields-end c = search needs
+part-has-header-end : tie.Need-part-has-header-end
+part-has-header-end c = search needs
 
-has-fixed-fields-requires : tie.Need-has-fixed-fields-requires
-has-fixed-fields-requires c κs = search needs
+has-header-requires : tie.Need-has-header-requires
+has-header-requires c κs = search needs
 
 returns : tie.Need-returns
 returns c =
     let s : List ℕ = c .before .before .before .before .args .frame .now in
     let at : ℕ = c .before .before .before .before .args .at in
-    no-message s at (tells-not {A = FixedFields (drop at s)} (c .before .has-fixed-fields .result) (subst (λ (m : List ℕ). Tells (c .before .has-fixed-fields .result) (FixedFields m)) (from-on at s) (c .before .has-fixed-fields .ensures)) (c .if1 .taken))
+    no-message s at (tells-not {A = DHCPHeader (drop at s)} (c .before .has-header .result) (of-rest DHCPHeader at s (c .before .has-header .result) (c .before .has-header .ensures)) (c .if1 .taken))
 
-add-list : tie.Need-add-list
-add-list c = search needs
+add-read-list : tie.Need-add-read-list
+add-read-list c = search needs
 
-list-requires : tie.Need-list-requires
-list-requires c κs = search needs
+read-list-requires : tie.Need-read-list-requires
+read-list-requires c κs =
+    let s : List ℕ = c .before .before .before .before .args .frame .now in
+    let at : ℕ = c .before .before .before .before .args .at in
+    let header = (tells-yes {A = DHCPHeader (drop at s)} (c .before .has-header .result) (of-rest DHCPHeader at s (c .before .has-header .result) (c .before .has-header .ensures)) (c .if1 .left)) in
+    omega (arith, header .most, length-drop at s)
 
 returns-2 : tie.Need-returns-2
 returns-2 c =
     let s : List ℕ = c .before .before .before .before .before .args .frame .now in
     let at : ℕ = c .before .before .before .before .before .args .at in
-    message-read s at (c .list .result) (tells-yes {A = FixedFields (drop at s)} (c .before .before .has-fixed-fields .result) (subst (λ (m : List ℕ). Tells (c .before .before .has-fixed-fields .result) (FixedFields m)) (from-on at s) (c .before .before .has-fixed-fields .ensures)) (c .before .if1 .left)) (c .list .ensures)
+    message-read s at (c .read-list .result) (tells-yes {A = DHCPHeader (drop at s)} (c .before .before .has-header .result) (of-rest DHCPHeader at s (c .before .before .has-header .result) (c .before .before .has-header .ensures)) (c .before .if1 .left)) (c .read-list .ensures)
 
 pub read-message-spec : {M : Type 1} → statement M
 read-message-spec =
     tie.close
     (tie.spec
-    sub-has-fixed-fields
-    part-has-fixed-fields-start
-    part-has-fixed-fields-end
-    has-fixed-fields-requires
+    sub-has-header
+    part-has-header-start
+    part-has-header-end
+    has-header-requires
     returns
-    add-list
-    list-requires
+    add-read-list
+    read-list-requires
     returns-2)

@@ -3,7 +3,7 @@ use borrow.Author.Needs.{needs}
 use Prim.Native.Nat.{ℕ, _+_, _-_}
 use native.Mathlib.Omega.{arith}
 use lib.ListN.{length, drop}
-use Rattle.reader.specs.Steps.{AllZero}
+use Rattle.reader.specs.Helpers.{AllZero}
 use Rattle.reader.proofs.Items.{zero-first, zero-rest, zero-more, zero-none}
 use Rattle.reader.proofs.dhcp.zeros.Statement.{statement}
 use Rattle.reader.proofs.dhcp.zeros.Tie as tie

@@ -7,7 +7,7 @@ use native.Mathlib.Omega.{arith}
 use lib.ListN.{take, length-take}
 use Rattle.sums.specs.Rfc1071.{total, fold}
 use Rattle.reader.specs.Grammar.{headerLength}
-use Rattle.reader.specs.Steps.{Whole}
+use Rattle.reader.specs.Grammar.{Unfragmented}
 use Rattle.reader.proofs.Telling.{tells-sums, tells-not, tells-yes}
 use Rattle.reader.proofs.ipv4.is_ipv4.Statement.{statement}
 use Rattle.reader.proofs.ipv4.is_ipv4.Tie as tie
@@ -36,11 +36,11 @@ returns-3 c = search needs
 returns-4 : tie.Need-returns-4
 returns-4 c = search needs
 
-is-whole-requires : tie.Need-is-whole-requires
-is-whole-requires c κs = search needs
+is-unfragmented-requires : tie.Need-is-unfragmented-requires
+is-unfragmented-requires c κs = search needs
 
 returns-5 : tie.Need-returns-5
-returns-5 c = λ a. tells-not {A = Whole (c .before .before .before .before .before .before .before .before .before .before .args .packet .now)} (c .before .is-whole .result) (c .before .is-whole .ensures) (c .if5 .taken) (record { reserved = a .reserved; more-fragments = a .more-fragments; offset = a .offset })
+returns-5 c = λ a. tells-not {A = Unfragmented (c .before .before .before .before .before .before .before .before .before .before .args .packet .now)} (c .before .is-unfragmented .result) (c .before .is-unfragmented .ensures) (c .if5 .taken) (a .unfragmented)
 
 slice-aggregate-bytes : tie.Need-slice-aggregate-bytes
 slice-aggregate-bytes c = simp length-take (omega arith)
@@ -52,7 +52,7 @@ returns-6 : tie.Need-returns-6
 returns-6 c =
     let s : List ℕ = c .before .before .before .before .before .before .before .before .before .before .before .before .args .packet .now in
     let header = c .before .before .before .before .before .before .before .before .header-length .ensures in
-    let flags = tells-yes {A = Whole s} (c .before .before .before .is-whole .result) (c .before .before .before .is-whole .ensures) (c .before .before .if5 .left) in
+    let flags = tells-yes {A = Unfragmented s} (c .before .before .before .is-unfragmented .result) (c .before .before .before .is-unfragmented .ensures) (c .before .before .if5 .left) in
     tells-sums (c .sum .result) (take (headerLength s) s) (c .sum .ensures ∙ ap (λ (n : ℕ). fold (0 + total (take n s))) (header .0))
     (λ right.
     record {
@@ -61,11 +61,8 @@ returns-6 c =
       most-header = search needs;
       total = search needs;
       inside = search needs;
-      reserved = flags .reserved;
-      more-fragments = flags .more-fragments;
-      offset = flags .offset;
+      unfragmented = flags;
       sums = right;
-      split = refl;
     })
     (λ a. a .sums)
 
@@ -81,7 +78,7 @@ is-ipv4-spec =
     cast-total
     returns-3
     returns-4
-    is-whole-requires
+    is-unfragmented-requires
     returns-5
     slice-aggregate-bytes
     sum-requires

@@ -3,35 +3,60 @@ use borrow.Author.Needs.{needs}
 use mathlib.Core.Path.{refl, sym, _∙_}
 use mathlib.Core.Logic.{inl, inr}
 use borrow.Author.Tests.{eqb-false}
-use Rattle.reader.proofs.Telling.{tells-eq, first-of, second-of}
+use Rattle.reader.proofs.Telling.{tells-eq, first-of, second-of, word-behind}
 use Rattle.reader.proofs.payloads.carries_dhcp.Statement.{statement}
 use Rattle.reader.proofs.payloads.carries_dhcp.Tie as tie
 
+header-length-requires : tie.Need-header-length-requires
+header-length-requires c κs = search needs
+
+add-u16be : tie.Need-add-u16be
+add-u16be c = search needs
+
 u16be-requires : tie.Need-u16be-requires
 u16be-requires c κs = search needs
+
+add-u16be-2 : tie.Need-add-u16be-2
+add-u16be-2 c = search needs
 
 u16be-requires-2 : tie.Need-u16be-requires-2
 u16be-requires-2 c κs = search needs
 
 returns : tie.Need-returns
 returns c =
-    let source = sym (c .before .before .u16be .ensures) ∙ c .if1 .taken in
-    let target = c .before .u16be2 .ensures in
+    let p = c .before .before .before .before .before .args .packet .now in
+    let header = c .before .before .before .header-length .ensures .0 in
+    let source-is = c .before .before .u16be .ensures ∙ word-behind p _ _ 0 header in
+    let target = c .before .u16be2 .ensures ∙ word-behind p _ _ 2 header in
+    let source = sym source-is ∙ c .if1 .taken in
     tells-eq (c .before .u16be2 .result) 68 (λ e. inl (source, sym target ∙ e))
     (λ a. target ∙ first-of a (λ b. eqb-false 67 68 refl (sym source ∙ b .0)) .1)
 
 returns-2 : tie.Need-returns-2
 returns-2 c =
-    let source = c .before .before .before .u16be .ensures in
+    let p = c .before .before .before .before .before .before .args .packet .now in
+    let header = c .before .before .before .before .header-length .ensures .0 in
+    let source = c .before .before .before .u16be .ensures ∙ word-behind p _ _ 0 header in
     λ a. c .if2 .taken (source ∙ second-of a (λ b. c .before .if1 .left (source ∙ b .0)) .0)
 
 returns-3 : tie.Need-returns-3
 returns-3 c =
-    let source = c .before .before .before .u16be .ensures in
-    let target = c .before .before .u16be2 .ensures in
+    let p = c .before .before .before .before .before .before .args .packet .now in
+    let header = c .before .before .before .before .header-length .ensures .0 in
+    let source = c .before .before .before .u16be .ensures ∙ word-behind p _ _ 0 header in
+    let target = c .before .before .u16be2 .ensures ∙ word-behind p _ _ 2 header in
     tells-eq (c .before .before .u16be2 .result) 67 (λ e. inr (sym source ∙ c .if2 .left, sym target ∙ e))
     (λ a. target ∙ second-of a (λ b. c .before .if1 .left (source ∙ b .0)) .1)
 
 pub carries-dhcp-spec : {M : Type 1} → statement M
 carries-dhcp-spec =
-    tie.close (tie.spec u16be-requires u16be-requires-2 returns returns-2 returns-3)
+    tie.close
+    (tie.spec
+    header-length-requires
+    add-u16be
+    u16be-requires
+    add-u16be-2
+    u16be-requires-2
+    returns
+    returns-2
+    returns-3)

@@ -1,13 +1,12 @@
 -- `is_udp` meets its contract: each test is a field of the rule.
 use borrow.Author.Needs.{needs}
-use Prim.Native.Nat.{ℕ, _+_, _-_, _/_, _*_}
-use mathlib.Core.Path.{_≡_, refl, ap, sym, subst, _∙_}
-use mathlib.Core.List.{List, [], _∷_, _++_}
+use Prim.Native.Nat.{ℕ, _+_}
+use mathlib.Core.Path.{ap, sym, _∙_}
+use mathlib.Core.List.{List}
 use native.Mathlib.Omega.{arith}
-use lib.ListN.{length, take, drop}
-use Rattle.fields.specs.Bytes.{be16, u8At, u16At, part}
-use Rattle.sums.specs.Rfc1071.{total, fold, SumsRight}
-use Rattle.reader.specs.Grammar.{UDP, layer, payloadAt, headerLength, payload, unsummed, summed}
+use lib.ListN.{length}
+use Rattle.fields.specs.Bytes.{u16At}
+use Rattle.reader.specs.Grammar.{UDP, headerLength, payload, unsummed, summed}
 use Rattle.reader.proofs.Telling.{tells-same, rest, has-to-sum}
 use Rattle.reader.proofs.payloads.is_udp.Statement.{statement}
 use Rattle.reader.proofs.payloads.is_udp.Tie as tie
@@ -27,7 +26,7 @@ part-datagram-end c = search needs
 returns : tie.Need-returns
 returns c =
     let p : List ℕ = c .before .before .before .before .args .packet .now in
-    let whole = c .before .before .before .before .pre in
+    let known = c .before .before .before .before .pre in
     let e = rest p (c .before .before .header-length .result) (headerLength p) (c .before .before .header-length .ensures .0) in
     let len = ap length e in
     λ a. omega (arith, len, a .size)
@@ -41,7 +40,7 @@ cast-if2 c = search needs
 returns-2 : tie.Need-returns-2
 returns-2 c =
     let p : List ℕ = c .before .before .before .before .before .before .args .packet .now in
-    let whole = c .before .before .before .before .before .before .pre in
+    let known = c .before .before .before .before .before .before .pre in
     let e = rest p (c .before .before .before .before .header-length .result) (headerLength p) (c .before .before .before .before .header-length .ensures .0) in
     let len = ap length e in
     λ a. c .if2 .taken (c .before .u16be .ensures ∙ ap (λ (m : List ℕ). u16At m 4) e ∙ a .stated ∙ sym len)
@@ -52,15 +51,14 @@ u16be-requires-2 c κs = search needs
 returns-3 : tie.Need-returns-3
 returns-3 c =
     let p : List ℕ = c .before .before .before .before .before .before .before .before .args .packet .now in
-    let whole = c .before .before .before .before .before .before .before .before .pre in
+    let known = c .before .before .before .before .before .before .before .before .pre in
     let e = rest p (c .before .before .before .before .before .before .header-length .result) (headerLength p) (c .before .before .before .before .before .before .header-length .ensures .0) in
     let len = ap length e in
     record {
-      carried = whole .carried;
+      carried = known .1;
       size = omega (arith, len);
       stated = sym (c .before .before .before .u16be .ensures ∙ ap (λ (m : List ℕ). u16At m 4) e) ∙ c .before .before .if2 .left ∙ len;
       sums = unsummed (sym (c .before .u16be2 .ensures ∙ ap (λ (m : List ℕ). u16At m 6) e) ∙ c .if3 .taken);
-      split = refl;
     }
 
 sums-with-pseudo-header-requires : tie.Need-sums-with-pseudo-header-requires
@@ -69,20 +67,19 @@ sums-with-pseudo-header-requires c κs = search needs
 returns-4 : tie.Need-returns-4
 returns-4 c =
     let p : List ℕ = c .before .before .before .before .before .before .before .before .before .args .packet .now in
-    let whole = c .before .before .before .before .before .before .before .before .before .pre in
+    let known = c .before .before .before .before .before .before .before .before .before .pre in
     let e = rest p (c .before .before .before .before .before .before .before .header-length .result) (headerLength p) (c .before .before .before .before .before .before .before .header-length .ensures .0) in
     let len = ap length e in
     let checksum = c .before .before .u16be2 .ensures ∙ ap (λ (m : List ℕ). u16At m 6) e in
-    tells-same {B = UDP p (layer (payloadAt p) 8 (payload p))} (c .sums-with-pseudo-header .result) (c .sums-with-pseudo-header .ensures)
+    tells-same {B = UDP p} (c .sums-with-pseudo-header .result) (c .sums-with-pseudo-header .ensures)
     (λ right.
     record {
-      carried = whole .carried;
+      carried = known .1;
       size = omega (arith, len);
       stated = sym (c .before .before .before .before .u16be .ensures ∙ ap (λ (m : List ℕ). u16At m 4) e) ∙ c .before .before .before .if2 .left ∙ len;
-      sums = summed (λ z. c .before .if3 .left (checksum ∙ z)) (subst (λ (m : List ℕ). SumsRight ((part p 12 8 ++ (0 ∷ u8At p 9 ∷ []) ++ be16 (length m)) ++ m)) e right);
-      split = refl;
+      sums = summed (λ z. c .before .if3 .left (checksum ∙ z)) right;
     })
-    (λ a. subst (λ (m : List ℕ). SumsRight ((part p 12 8 ++ (0 ∷ u8At p 9 ∷ []) ++ be16 (length m)) ++ m)) (sym e) (has-to-sum p _ (a .sums) (λ z. c .before .if3 .left (checksum ∙ z))))
+    (λ a. has-to-sum p _ (a .sums) (λ z. c .before .if3 .left (checksum ∙ z)))
 
 pub is-udp-spec : {M : Type 1} → statement M
 is-udp-spec =

@@ -1,13 +1,13 @@
--- `is_whole` meets its contract: shift and mask are quotient and remainder.
+-- `is_unfragmented` meets its contract: shift and mask are quotient and remainder.
 use borrow.Author.Needs.{needs}
 use mathlib.Core.Path.{ap, sym, _∙_}
 use Prim.Native.Nat.{ℕ, _/_, _%_}
 use native.Mathlib.Omega.{arith}
 use lib.Bits.{bitAnd, and-mask}
-use Rattle.reader.specs.Steps.{Whole}
+use Rattle.reader.specs.Grammar.{Unfragmented}
 use Rattle.reader.proofs.Telling.{tells-eq}
-use Rattle.reader.proofs.ipv4.is_whole.Statement.{statement}
-use Rattle.reader.proofs.ipv4.is_whole.Tie as tie
+use Rattle.reader.proofs.ipv4.is_unfragmented.Statement.{statement}
+use Rattle.reader.proofs.ipv4.is_unfragmented.Tie as tie
 
 u16be-requires : tie.Need-u16be-requires
 u16be-requires c κs = search needs
@@ -21,7 +21,7 @@ returns-2 c = λ a. omega (arith, a .more-fragments, and-mask (c .before .before
 returns-3 : tie.Need-returns-3
 returns-3 c =
     let offset = and-mask (c .before .before .u16be .result) 13 in
-    tells-eq {A = Whole (c .before .before .before .before .args .packet .now)} (bitAnd (c .before .before .u16be .result) 8191) 0
+    tells-eq {A = Unfragmented (c .before .before .before .before .args .packet .now)} (bitAnd (c .before .before .u16be .result) 8191) 0
     (λ e.
     record {
       reserved = omega arith;
@@ -30,5 +30,5 @@ returns-3 c =
     })
     (λ a. omega (arith, offset, a .offset))
 
-pub is-whole-spec : {M : Type 1} → statement M
-is-whole-spec = tie.close (tie.spec u16be-requires returns returns-2 returns-3)
+pub is-unfragmented-spec : {M : Type 1} → statement M
+is-unfragmented-spec = tie.close (tie.spec u16be-requires returns returns-2 returns-3)

@@ -1,11 +1,11 @@
--- `has_fixed_fields` meets its contract: each test is a field.
+-- `has_header` meets its contract: each test is a field of the rule.
 use borrow.Author.Needs.{needs}
 use mathlib.Core.Path.{sym, subst, _∙_}
 use native.Mathlib.Omega.{arith}
 use native.Mathlib.Nat.{lt-irrefl, lt-of-lt-of-le, lt-of-le-of-lt}
 use Rattle.reader.proofs.Telling.{tells-eq, one-or-two, at-least-1, at-most-2}
-use Rattle.reader.proofs.dhcp.has_fixed_fields.Statement.{statement}
-use Rattle.reader.proofs.dhcp.has_fixed_fields.Tie as tie
+use Rattle.reader.proofs.dhcp.has_header.Statement.{statement}
+use Rattle.reader.proofs.dhcp.has_header.Tie as tie
 
 returns : tie.Need-returns
 returns c = search needs
@@ -52,8 +52,8 @@ returns-7 c =
     })
     (λ a. c .u32be .ensures ∙ a .cookie)
 
-pub has-fixed-fields-spec : {M : Type 1} → statement M
-has-fixed-fields-spec =
+pub has-header-spec : {M : Type 1} → statement M
+has-header-spec =
     tie.close
     (tie.spec
     returns

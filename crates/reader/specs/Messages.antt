@@ -1,20 +1,19 @@
 -- What the readers of a DHCP message and of its list answer: its type, or 0 where it is outside the grammar.
 use Prim.Native.Nat.{ℕ, zero, suc, _+_, _≤_}
 use mathlib.Core.Path.{_≡_}
-use mathlib.Core.Logic.{_⊎_}
 use mathlib.Core.List.{List, [], _∷_}
-use lib.ListN.{length, drop}
-use Rattle.fields.specs.Bytes.{u8At, u32At}
-use Rattle.reader.specs.Grammar.{ItemList, option, types, IsList, DHCP, layer}
+use lib.ListN.{drop}
+use Rattle.fields.specs.Bytes.{u8At}
+use Rattle.reader.specs.Grammar.{ItemList, option, options53, IsList, DHCP}
 use Rattle.reader.specs.Report.{values}
 
 -- The type `type` by a list, where an option 53 before the list said `seen`; 0: there was none.
 pub data Gives (frame : List ℕ) (seen : ℕ) (items : ItemList) (type : ℕ) : Type 0 where
-  before : 1 ≤ seen → type ≡ seen → types items ≡ [] → Gives frame seen items type
-  within : seen ≡ 0 → (place : ℕ) → types items ≡ option place 53 1 ∷ [] → type ≡ u8At frame (place + 2) → 1 ≤ type → type ≤ 8
+  before : 1 ≤ seen → type ≡ seen → options53 items ≡ [] → Gives frame seen items type
+  within : seen ≡ 0 → (place : ℕ) → options53 items ≡ option place 53 1 ∷ [] → type ≡ u8At frame (place + 2) → 1 ≤ type → type ≤ 8
       → Gives frame seen items type
 
--- a list that gives this type, from the place `at` on
+-- a list that gives this type, from the place `at` to the frame's end
 unfoldable pub ListGives : (frame : List ℕ) (at seen type : ℕ) → Type 0
 ListGives frame at seen type =
     (items : ItemList) × IsList at (drop at frame) items × Gives frame seen items type
@@ -24,19 +23,10 @@ unfoldable pub Listed : (frame : List ℕ) (at seen : ℕ) (answer : ℕ) → Ty
 Listed frame at seen zero = (type : ℕ) → ListGives frame at seen type → ⊥
 Listed frame at seen (suc n) = ListGives frame at seen (suc n)
 
--- a message but for its list
-pub record FixedFields (s : List ℕ) : Type 0 where
-  pub least : 240 ≤ length s
-  pub most : length s ≤ 1472
-  pub operation : (u8At s 0 ≡ 1) ⊎ (u8At s 0 ≡ 2)
-  pub hardware : u8At s 1 ≡ 1
-  pub hardware-length : u8At s 2 ≡ 6
-  pub cookie : u32At s 236 ≡ 0x63825363
-
 -- what the reader of the message at `at` answers
 unfoldable pub MessageRead : (frame : List ℕ) (at : ℕ) (answer : ℕ) → Type 0
-MessageRead frame at zero = (items : ItemList) → DHCP frame at (drop at frame) (layer at 240 (drop at frame)) items → ⊥
+MessageRead frame at zero = (items : ItemList) → DHCP frame at items → ⊥
 MessageRead frame at (suc n) =
     (items : ItemList)
-    × DHCP frame at (drop at frame) (layer at 240 (drop at frame)) items
-    × (values frame (types items) ≡ suc n ∷ [])
+    × DHCP frame at items
+    × (values frame (options53 items) ≡ suc n ∷ [])
