@@ -43,15 +43,25 @@ def open_tap(other_namespaces=0):
     return tap
 
 
-def next_frame(tap, proto, what):
-    """The next IPv4 frame with this protocol; any other frame is passed over."""
+def next_whole(tap, is_wanted, what):
+    """The next frame of which this holds, as it was sent; any other is passed over."""
     end = time.monotonic() + WAIT
     while time.monotonic() < end:
         if select.select([tap], [], [], 0.1)[0]:
             frame = os.read(tap, 65536)
-            if frame[12:14] == b"\x08\x00" and frame[23] == proto:
-                return frame[: 14 + int.from_bytes(frame[16:18], "big")]
+            if is_wanted(frame):
+                return frame
     sys.exit("tap: no frame for " + what)
+
+
+def next_frame(tap, proto, what):
+    """The next IPv4 frame with this protocol, to its total length; any other is passed over."""
+    frame = next_whole(tap, lambda frame: carries(frame, proto), what)
+    return frame[: 14 + int.from_bytes(frame[16:18], "big")]
+
+
+def carries(frame, proto):
+    return frame[12:14] == b"\x08\x00" and frame[23] == proto
 
 
 def release():
