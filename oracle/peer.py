@@ -56,9 +56,9 @@ def icmp(kind, rest):
     return packet(ICMP, with_checksum(struct.pack("!BBH", kind, 0, 0) + rest, 2))
 
 
-def udp(source, destination, data, **addresses):
+def udp(from_port, to_port, data, **addresses):
     """A datagram without a checksum."""
-    return packet(UDP, struct.pack("!4H", source, destination, 8 + len(data), 0) + data, **addresses)
+    return packet(UDP, struct.pack("!4H", from_port, to_port, 8 + len(data), 0) + data, **addresses)
 
 
 def tcp(ports, sequence, acknowledged, flags, options=b"", data=b""):

@@ -15,6 +15,7 @@ GUEST_IP, GATEWAY_IP = "10.0.2.15", "10.0.2.2"
 GUEST_MAC, GATEWAY_MAC = "52:54:00:12:34:56", "52:54:00:00:00:01"
 ICMP, TCP, UDP = 1, 6, 17
 WAIT = 5.0  # seconds for one frame
+ZEROS_LEFT_OUT = 1000  # more zeros than this at a frame's end are only counted
 
 CLONE_NEWNET = 0x40000000
 TUNSETIFF, IFF_TAP, IFF_NO_PI = 0x400454CA, 0x0002, 0x1000
@@ -43,9 +44,9 @@ def open_tap(other_namespaces=0):
     return tap
 
 
-def next_whole(tap, is_wanted, what):
+def next_whole(tap, is_wanted, what, seconds=WAIT):
     """The next frame of which this holds, as it was sent; any other is passed over."""
-    end = time.monotonic() + WAIT
+    end = time.monotonic() + seconds
     while time.monotonic() < end:
         if select.select([tap], [], [], 0.1)[0]:
             frame = os.read(tap, 65536)
@@ -62,6 +63,19 @@ def next_frame(tap, proto, what):
 
 def carries(frame, proto):
     return frame[12:14] == b"\x08\x00" and frame[23] == proto
+
+
+def frame_line(frame):
+    """A whole frame: n(4), its bytes but for the last n, which are zeros."""
+    written = frame.rstrip(b"\0")
+    if len(frame) - len(written) <= ZEROS_LEFT_OUT:
+        written = frame
+    body_at, payload_at = 14, 14
+    if written[12:14] == b"\x08\x00":
+        payload_at += written[14] % 16 * 4
+    parts = [written[:body_at], written[body_at:payload_at], written[payload_at:]]
+    zeros = len(frame) - len(written)
+    return " ".join([f"{zeros:08x}", *(part.hex() for part in parts if part)])
 
 
 def release():
