@@ -5,11 +5,8 @@ use published::{NetworkBackend, SlirpBackend};
 use std::panic::{self, AssertUnwindSafe};
 
 use crate::draws::{BROADCAST_IP, GATEWAY_IP, GATEWAY_MAC, GUEST_IP};
+pub use crate::guest_frames::{COOKIE, COOKIE_AT, OPTIONS_AT};
 
-/// Where the options start. A shorter message is dropped.
-pub const OPTIONS_AT: usize = 240;
-pub const COOKIE: [u8; 4] = [0x63, 0x82, 0x53, 0x63];
-pub const COOKIE_AT: usize = 236;
 /// In a frame the reply stands behind 42 bytes of headers, and its type's value behind 53 and 1.
 const REPLY_TYPE_AT: usize = 42 + OPTIONS_AT + 2;
 

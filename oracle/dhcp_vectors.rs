@@ -4,6 +4,8 @@ use crate::ask_dhcp::{self, OPTIONS_AT, Walk};
 use crate::cases::Room::{Empty, Full, Larger, Most, OneMore, OneShort, Shorter};
 use crate::dhcp_cases::{DhcpList, SEEDS_IN_TURN, filled};
 use crate::draws::{DHCP_SEED, Draws, GUEST_MAC};
+pub use crate::guest_frames::{END, PAD, TYPE};
+pub use crate::lines::bytes_of;
 use crate::lines::ruled_bytes;
 
 /// Messages of a real client, and messages put together by hand; each file says how.
@@ -11,10 +13,6 @@ pub const CLIENT_MESSAGES: [&str; 2] = [
     include_str!("dhcp_captured.txt"),
     include_str!("dhcp_composed.txt"),
 ];
-
-pub const PAD: u8 = 0;
-pub const TYPE: u8 = 53;
-pub const END: u8 = 255;
 
 const SMALL_ALPHABET: [u8; 7] = [PAD, 1, 12, TYPE, 54, 254, END];
 const CODES: [u8; 6] = [1, 12, 52, TYPE, 54, 254];
@@ -403,14 +401,6 @@ fn client_messages(list: &mut DhcpList, file: &str) {
             });
         }
     }
-}
-
-pub fn bytes_of(line: &str) -> Vec<u8> {
-    let digits: Vec<char> = line.chars().filter(|digit| *digit != ' ').collect();
-    digits
-        .chunks(2)
-        .map(|pair| u8::from_str_radix(&String::from_iter(pair), 16).unwrap())
-        .collect()
 }
 
 fn replies(list: &mut DhcpList) {

@@ -1,8 +1,6 @@
 //! Frames as a guest sends them, put together byte by byte and not by the Rust's builders: those
 //! spend ids.
 
-use crate::ask_dhcp::{COOKIE, COOKIE_AT, OPTIONS_AT};
-use crate::dhcp_vectors::{END, TYPE};
 use crate::draws::{BROADCAST_IP, GATEWAY_IP, GATEWAY_MAC, GUEST_IP, GUEST_MAC};
 
 pub const ARP: u16 = 0x0806;
@@ -22,6 +20,15 @@ pub const TARGET_AT: usize = 30;
 pub const PAYLOAD_AT: usize = 34;
 pub const UDP_LENGTH_AT: usize = 38;
 pub const DATA_AT: usize = 42;
+
+/// Where the options start in a DHCP message. A shorter one is dropped.
+pub const OPTIONS_AT: usize = 240;
+pub const COOKIE: [u8; 4] = [0x63, 0x82, 0x53, 0x63];
+pub const COOKIE_AT: usize = 236;
+
+pub const PAD: u8 = 0;
+pub const TYPE: u8 = 53;
+pub const END: u8 = 255;
 
 pub const EVERYONE: [u8; 4] = [255; 4];
 pub const ELSEWHERE: [u8; 4] = [93, 184, 216, 34];
@@ -169,7 +176,7 @@ pub fn xid_bringer(xid: u32) -> Vec<u8> {
 }
 
 /// The checksum of a header or message whose checksum field is 0.
-fn summed(words: &[u8]) -> [u8; 2] {
+pub fn summed(words: &[u8]) -> [u8; 2] {
     let mut sum = 0u64;
     for word in words.chunks(2) {
         sum += 256 * word[0] as u64 + *word.get(1).unwrap_or(&0) as u64;

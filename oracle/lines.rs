@@ -19,6 +19,15 @@ pub fn hex(bytes: &[u8]) -> String {
     bytes.iter().map(|byte| format!("{byte:02x}")).collect()
 }
 
+/// The bytes of a line that has no comment; spaces count for nothing.
+pub fn bytes_of(line: &str) -> Vec<u8> {
+    let digits: Vec<char> = line.chars().filter(|digit| *digit != ' ').collect();
+    digits
+        .chunks(2)
+        .map(|pair| u8::from_str_radix(&String::from_iter(pair), 16).unwrap())
+        .collect()
+}
+
 pub struct Lines {
     text: String,
     by_kind_and_verdict: BTreeMap<(u8, Option<u8>), usize>,
