@@ -15,6 +15,7 @@ mod gateway_sequences;
 mod gateway_vectors;
 mod guest_frames;
 mod lines;
+mod pieces;
 
 fn main() {
     print!("{}", builder_vectors::list());
