@@ -198,7 +198,13 @@ fn with_id_spent(record: Record) -> Record {
 }
 
 /// A frame from the gateway around the payload.
-fn ip_frame(record: Record, mac: &[u8], target: &[u8], protocol: u8, payload: &[u8]) -> Vec<u8> {
+pub fn ip_frame(
+    record: Record,
+    mac: &[u8],
+    target: &[u8],
+    protocol: u8,
+    payload: &[u8],
+) -> Vec<u8> {
     let total_length = (20 + payload.len()) as u16;
     let header_around = |sum: [u8; 2]| {
         [

@@ -4,6 +4,8 @@
 pub const BUILDERS_SEED: u64 = 0x9e37_79b9_7f4a_7c15;
 pub const DHCP_SEED: u64 = 0x2545_f491_4f6c_dd1d;
 pub const GATEWAY_SEED: u64 = 0xd1b5_4a32_d192_ed03;
+#[allow(dead_code)] // by oracle/vectors
+pub const READINGS_SEED: u64 = 0xbf58_476d_1ce4_e5b9;
 
 pub const GATEWAY_IP: [u8; 4] = [10, 0, 2, 2];
 pub const GUEST_IP: [u8; 4] = [10, 0, 2, 15];

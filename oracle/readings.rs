@@ -1,0 +1,39 @@
+//! The vectors of the strict reader: frames and what document 01's grammar says of them. Neither a
+//! reader nor the published Rust is asked; `grammar_01.rs` is the judge.
+
+#[allow(dead_code)]
+mod document_01;
+#[allow(dead_code)]
+mod draws;
+mod grammar_01;
+#[allow(dead_code)]
+mod guest_frames;
+#[allow(dead_code)]
+mod lines;
+mod mended;
+#[allow(dead_code)]
+mod pieces;
+mod reading_cases;
+mod readings_captured;
+mod readings_damaged;
+mod readings_drawn;
+mod readings_lengths;
+mod readings_options;
+mod readings_own;
+mod readings_spoiled;
+mod readings_sums;
+
+use reading_cases::ReadingList;
+
+fn main() {
+    let mut list = ReadingList::new();
+    readings_captured::list(&mut list);
+    readings_damaged::list(&mut list);
+    readings_sums::list(&mut list);
+    readings_lengths::list(&mut list);
+    readings_options::list(&mut list);
+    readings_own::list(&mut list);
+    readings_drawn::list(&mut list);
+    readings_spoiled::list(&mut list);
+    print!("{}", list.finish());
+}

@@ -1,0 +1,126 @@
+//! Frames that the gateway and the builders make: the answers of the published Rust, out of the list
+//! that `replay` replays. The gateway's replies have to be in the grammar, all of them.
+
+use crate::document_01::{Record, ip_frame};
+use crate::draws::{GUEST_IP, GUEST_MAC};
+use crate::grammar_01::Kind;
+use crate::lines::{bytes_of, ruled_bytes};
+use crate::pieces::laid;
+use crate::reading_cases::{Origin, ReadingList};
+
+const REPLAYED: &str = include_str!("../crates/replay/stdin");
+
+/// Longer frames are left out, but for those that end in zeros.
+const LONGEST: usize = 130;
+const MOST_DHCP_REPLIES: usize = 30;
+
+fn number(bytes: &[u8]) -> usize {
+    bytes.iter().fold(0, |n, byte| 256 * n + *byte as usize)
+}
+
+/// What a builder made, by its line: `tail` is where TAIL starts.
+fn built(case: &[u8], tail: usize) -> Option<Vec<u8>> {
+    let tail = &case[tail..];
+    let (verdict, seed, len, head) = (tail[4], tail[9], number(&tail[10..14]), tail[14]);
+    let head = 15 + usize::from(head);
+    let payload = match seed {
+        0 => tail[head..].to_vec(),
+        seed => ruled_bytes(seed, len),
+    };
+    (verdict == 1).then(|| [&tail[15..head], &payload].concat())
+}
+
+/// The gateway's reply, by its line: `fields` is where CALL starts.
+fn reply(case: &[u8], fields: usize) -> Option<Vec<u8>> {
+    let call = &case[fields..];
+    let frame_end = 26 + number(&call[24..26]);
+    let frame = laid(&call[26..frame_end], &[]);
+    (call[17] == 1).then(|| laid(&call[frame_end..], &frame))
+}
+
+fn cases() -> Vec<Vec<u8>> {
+    let lines = REPLAYED.lines().map(|line| line.split('#').next().unwrap());
+    lines
+        .map(bytes_of)
+        .filter(|case| !case.is_empty())
+        .collect()
+}
+
+/// All of ARP, and of the others some.
+fn replies(list: &mut ReadingList) {
+    let (mut dhcp_replies, mut echoes) = (0, 0);
+    for case in cases() {
+        let reply = match case[0] {
+            0x0d => reply(&case, 7),
+            0x0e => reply(&case, 1),
+            _ => None,
+        };
+        let Some(reply) = reply else {
+            continue;
+        };
+        let ends_in_zeros = reply.iter().rev().take(100).all(|byte| *byte == 0);
+        let kind = match (reply[13], reply[23]) {
+            (6, _) => Kind::Arp,
+            (_, 1) => Kind::Icmp,
+            _ => Kind::Dhcp,
+        };
+        dhcp_replies += usize::from(kind == Kind::Dhcp);
+        echoes += usize::from(kind == Kind::Icmp);
+        let is_listed = match kind {
+            Kind::Dhcp => dhcp_replies <= MOST_DHCP_REPLIES,
+            Kind::Icmp => echoes % 2 == 1 && (reply.len() <= LONGEST || ends_in_zeros),
+            _ => true,
+        };
+        if is_listed {
+            list.taken(Origin::Own, kind, &reply);
+        }
+    }
+}
+
+fn ip_frames(list: &mut ReadingList) {
+    for case in cases().iter().filter(|case| case[0] == 3) {
+        if let Some(frame) = built(case, 18).filter(|frame| frame.len() <= LONGEST) {
+            list.judged(Origin::Own, &frame);
+        }
+    }
+}
+
+/// Every third of those built: there is one for each byte of flags.
+fn tcp_frames(list: &mut ReadingList) {
+    let cases = cases();
+    let frames = cases
+        .iter()
+        .filter(|case| case[0] == 6)
+        .filter_map(|case| built(case, 30));
+    for frame in frames.filter(|frame| frame.len() <= LONGEST).step_by(3) {
+        list.taken(Origin::Own, Kind::Tcp, &frame);
+    }
+}
+
+/// A datagram of the builder's, in the frame that document 01 says the other builder makes.
+fn datagrams(list: &mut ReadingList) {
+    let datagrams = cases();
+    let datagrams = datagrams.iter().filter(|case| case[0] == 5);
+    for (turn, datagram) in datagrams.filter_map(|case| built(case, 5)).enumerate() {
+        let record = Record {
+            mac: GUEST_MAC,
+            id: turn as u16,
+            xid: 0,
+        };
+        let frame = ip_frame(record, &GUEST_MAC, &GUEST_IP, 17, &datagram);
+        if frame.len() <= LONGEST {
+            list.judged(Origin::Own, &frame);
+        }
+    }
+}
+
+pub fn list(list: &mut ReadingList) {
+    list.comment("the gateway's replies");
+    replies(list);
+    list.comment("make_tcp_frame");
+    tcp_frames(list);
+    list.comment("make_ip_frame: the payload is any bytes, so of protocols 1, 6 and 17 few are in the grammar");
+    ip_frames(list);
+    list.comment("make_udp_payload, in an IPv4 frame");
+    datagrams(list);
+}
