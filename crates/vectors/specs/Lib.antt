@@ -1,0 +1,4 @@
+pub mod Pick
+pub mod Slices
+pub mod Lines
+pub mod Count
