@@ -2,6 +2,8 @@
 use fields::byte_at;
 use fields::u32be;
 use frames::Verdict;
+use vectors::part;
+use vectors::rest;
 ghost use mathlib.Core.Path.{_≡_};
 ghost use Prim.Native.Nat.{_≤_};
 ghost use lib.ListN.{length};
@@ -57,24 +59,6 @@ pub fn read_expected(line: &[u8], at: usize) -> Expected
         head_len: head_len,
         payload_at: at + 15 + head_len,
     }
-}
-
-// The `len` bytes of `s` from `at` on, or none where they run past its end.
-pub fn part(s: &[u8], at: usize, len: usize) -> &[u8] {
-    if at <= s.len() {
-        if len <= s.len() - at {
-            &s[at..at + len]
-        } else {
-            &s[..0]
-        }
-    } else {
-        &s[..0]
-    }
-}
-
-// The bytes of `s` from `at` on.
-pub fn rest(s: &[u8], at: usize) -> &[u8] {
-    if at <= s.len() { &s[at..] } else { &s[..0] }
 }
 
 // The verdict has the number and the value, and the buffer holds what belongs to them: the head and

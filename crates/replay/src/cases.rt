@@ -60,7 +60,7 @@ pub fn judge(line: &[u8]) -> Case {
         UDP_PAYLOAD => came_out(kind, builds(line, UDP_PAYLOAD, 5)),
         TCP_FRAME => came_out(kind, builds(line, TCP_FRAME, 30)),
         CHECKSUM_BY_RULE => came_out(kind, checksum_by_rule(line)),
-        WHOLE_FRAME => came_out(kind, frame::sums_right(answers::rest(line, 1))),
+        WHOLE_FRAME => came_out(kind, frame::sums_right(vectors::rest(line, 1))),
         _ => judge_message(line),
     }
 }

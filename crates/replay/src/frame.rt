@@ -1,10 +1,10 @@
 // A whole frame that another made: its checksums are right.
-use crate::answers::part;
 use fields::ip_dst;
 use fields::ip_hlen;
 use fields::ip_proto;
 use fields::ip_src;
 use fields::u16be;
+use vectors::part;
 
 const ICMP: u8 = 1;
 

@@ -59,9 +59,9 @@ pub fn is_call(line: &[u8]) -> bool {
 
 pub fn called(line: &[u8], last: Guest) -> Outcome {
     if byte_at(line, 0) % cases::SPOILED == GOES_ON {
-        return judged(answers::rest(line, 1), last);
+        return judged(vectors::rest(line, 1), last);
     }
-    judged(answers::rest(line, 7), record_before(line))
+    judged(vectors::rest(line, 7), record_before(line))
 }
 
 // It has the MAC of the record after the call.
@@ -106,12 +106,12 @@ fn call_in(fields: &[u8], before: Guest, space: &mut [u8]) -> Checked {
     if fields.len() < FRAME_AT + size {
         return unlike(before);
     }
-    let nothing = answers::part(fields, 0, 0);
-    let frame = pieces::lay(answers::part(fields, FRAME_AT, size), nothing, space);
+    let nothing = vectors::part(fields, 0, 0);
+    let frame = pieces::lay(vectors::part(fields, FRAME_AT, size), nothing, space);
     if !frame.whole {
         return unlike(before);
     }
-    call_with(fields, before, answers::part(space, 0, frame.len))
+    call_with(fields, before, vectors::part(space, 0, frame.len))
 }
 
 fn unlike(before: Guest) -> Checked {
@@ -158,24 +158,24 @@ fn is_answer_in(
     space: &mut [u8],
 ) -> bool {
     let size = u16be(fields, FRAME_SIZE_AT) as usize;
-    let image = pieces::lay(answers::rest(fields, FRAME_AT + size), frame, space);
+    let image = pieces::lay(vectors::rest(fields, FRAME_AT + size), frame, space);
     image.whole
         && image.len == reply_length(fields)
         && is_verdict(fields, verdict)
-        && holds(out, answers::part(space, 0, image.len))
+        && holds(out, vectors::part(space, 0, image.len))
 }
 
 fn is_record(fields: &[u8], after: Guest) -> bool {
     let mac = after.mac;
-    check::same(&mac, answers::part(fields, 0, 6))
+    check::same(&mac, vectors::part(fields, 0, 6))
         && after.id == u16be(fields, 6)
         && after.xid == u32be(fields, 8)
 }
 
 // The buffer starts with the image, and is as it was behind it.
 fn holds(out: &[u8], image: &[u8]) -> bool {
-    check::same(answers::part(out, 0, image.len()), image)
-        && answers::is_untouched(answers::rest(out, image.len()))
+    check::same(vectors::part(out, 0, image.len()), image)
+        && answers::is_untouched(vectors::rest(out, image.len()))
 }
 
 // Only a reply has bytes, and as many as it says.

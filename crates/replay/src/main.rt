@@ -5,14 +5,13 @@ mod answers;
 mod cases;
 mod frame;
 mod gateway;
-mod lines;
 mod messages;
 mod pieces;
 mod tally;
 
 use fields::byte_at;
 use frames::Guest;
-use tally::Tally;
+use vectors::Tally;
 
 const STDIN: i32 = 0;
 
@@ -40,7 +39,7 @@ fn replay(text: &[u8], line: &mut [u8]) -> Tally {
     };
     let mut at = 0;
     while at < text.len() {
-        let read = lines::decode(text, at, line);
+        let read = vectors::decode(text, at, line);
         at = read.next;
         let len = read.len;
         run = judged(run, read.whole, &line[..len]);

@@ -23,7 +23,7 @@ fn walks_in(line: &[u8], space: &mut [u8]) -> bool {
         return false;
     }
     let ruled = u32be(line, 7) as usize;
-    let len = ruled + answers::rest(line, WRITTEN_AT).len();
+    let len = ruled + vectors::rest(line, WRITTEN_AT).len();
     if space.len() < len {
         return false;
     }
@@ -33,7 +33,7 @@ fn walks_in(line: &[u8], space: &mut [u8]) -> bool {
 // Behind the line's end there are no bytes to lay, so that seed 0 lays zeros.
 fn is_walk(line: &[u8], ruled: usize, message: &mut [u8]) -> bool {
     answers::lay_payload(line, line.len(), byte_at(line, 6), message);
-    frames::put(message, ruled, answers::rest(line, WRITTEN_AT));
+    frames::put(message, ruled, vectors::rest(line, WRITTEN_AT));
     is_found(
         options::message_type(message),
         byte_at(line, 1),
@@ -67,7 +67,7 @@ pub fn cut_everywhere(line: &[u8]) -> bool {
 fn is_found_before(line: &[u8], len: u16, end: u16) -> bool {
     let answer_at = 3 + (len as usize) + 3 * (end as usize);
     is_found(
-        options::message_type(answers::part(line, 3, end as usize)),
+        options::message_type(vectors::part(line, 3, end as usize)),
         byte_at(line, answer_at),
         u16be(line, answer_at + 1) as usize,
     )
@@ -109,7 +109,7 @@ fn is_reply(line: &[u8], out: &mut [u8]) -> bool {
         seed: 0,
         len: 0,
         head_at: 21,
-        head_len: answers::rest(line, 21).len(),
+        head_len: vectors::rest(line, 21).len(),
         payload_at: line.len(),
     };
     let verdict = dhcp::build_reply(
@@ -119,5 +119,5 @@ fn is_reply(line: &[u8], out: &mut [u8]) -> bool {
         byte_at(line, 11),
         out,
     );
-    answers::is_expected(expected, line, answers::part(line, 0, 0), verdict, out)
+    answers::is_expected(expected, line, vectors::part(line, 0, 0), verdict, out)
 }

@@ -37,7 +37,7 @@ pub fn lay(pieces: &[u8], frame: &[u8], out: &mut [u8]) -> Laid {
     };
     let mut at = 0;
     while at < pieces.len() {
-        laid = with_piece(laid, answers::rest(pieces, at), frame, out);
+        laid = with_piece(laid, vectors::rest(pieces, at), frame, out);
         at = behind(pieces, at);
     }
     laid
@@ -48,7 +48,7 @@ fn behind(pieces: &[u8], at: usize) -> usize
     requires { ⌜ at < length (now pieces) ⌝ }
     ensures { λ r. ⌜ (at < r) × (r ≤ length (now (pieces .entry))) ⌝ }
 {
-    let size = first(answers::rest(pieces, at)).size;
+    let size = first(vectors::rest(pieces, at)).size;
     if size == 0 {
         return pieces.len();
     }
@@ -144,7 +144,7 @@ fn lay_piece(pieces: &[u8], frame: &[u8], out: &mut [u8]) -> bool {
 }
 
 fn lay_part(from: &[u8], at: usize, out: &mut [u8]) -> bool {
-    let part = answers::part(from, at, out.len());
+    let part = vectors::part(from, at, out.len());
     frames::put(out, 0, part);
     part.len() == out.len()
 }

@@ -35,7 +35,9 @@ judged-requires : tie.Need-judged-requires Inv-loop μ-loop
 judged-requires c κs = search needs
 
 loop-less : tie.Need-loop-less Inv-loop μ-loop
-loop-less c = search needs
+loop-less c =
+    let d = c .before .before .before .before in
+    omega (arith, d .decode .ensures .moves (d .before .before .loop-test .taken))
 
 loop-again : tie.Need-loop-again Inv-loop μ-loop
 loop-again c = search needs
