@@ -1,16 +1,15 @@
 -- ARP, other IPv4, ICMP, UDP and TCP as they are built are derived by the grammar: their fields are read back, and they sum right.
-use Prim.Native.Nat.{ℕ, _+_, _≤_, _/_, _*_}
+use Prim.Native.Nat.{ℕ, _+_, _≤_, _*_}
 use mathlib.Core.Path.{_≡_, refl, ap, sym, _∙_}
 use mathlib.Core.Logic.{inl, inr}
 use mathlib.Core.List.{List}
 use native.Mathlib.Omega.{arith}
 use lib.ListN.{length, length-drop}
-use Rattle.fields.specs.Bytes.{u8At}
 use Rattle.frames.specs.Rfc768.{datagram}
 use Rattle.frames.specs.declared.network.Network.{Network}
 use Rattle.frames.proofs.Lengths.{length-datagram}
 use Rattle.frames.proofs.ReadBack.{DatagramOf, datagram-reads-back}
-use Rattle.reader.specs.Grammar.{body, payload, CarriesDHCP, unsummed, UDP, Derives}
+use Rattle.reader.specs.Grammar.{body, payload, CarriesDHCP, dataOffset, unsummed, UDP, Derives}
 use Rattle.rules.specs.Rfc792.{echo}
 use Rattle.rules.specs.Rfc826.{arpReply}
 use Rattle.slirp.proofs.ReadBack.{arp-reads-back, echo-reads-back}
@@ -19,7 +18,7 @@ use Rattle.tcp.specs.declared.Endpoints.{Endpoints}
 use Rattle.tcp.proofs.ReadBack.{SegmentOf, segment-reads-back}
 use Rattle.tcp.proofs.SumsRight.{segment-sums-right}
 use Rattle.tcp.proofs.TcpLaws.{length-segment, syn-cases}
-use Rattle.laws.specs.Derivations.{parts, arpParts, otherParts, icmpParts, udpParts, tcpParts}
+use Rattle.laws.specs.Derivations.{arpParts, otherParts, icmpParts, udpParts, tcpParts}
 use Rattle.laws.proofs.DerivedIp.{placed, Packet, payload-placed}
 
 -- an ARP reply
@@ -28,15 +27,16 @@ unfolding Derives
 arp-derived net request four n e =
     let frame = arpReply net request in
     let a = arp-reads-back net request four in (
-      record { whole = omega (arith, a .long); typed = a .type; split = placed 0 14 frame 0 14 n refl refl (omega arith) },
+      record { whole = omega (arith, a .long); typed = a .type },
       record {
         size = omega (arith, length-drop 14 frame, a .long);
         hardware = a .ethernet;
-        protocol = a .ipv4;
+        protocol-type = a .ipv4;
         hardware-length = a .six;
         protocol-length = a .four;
         operation = inr (a .is-reply);
       },
+      placed 0 14 frame 0 14 n refl refl (omega arith),
     )
 
 module _ (frame : List ℕ) (n : ℕ) (source target : List ℕ) where
@@ -49,6 +49,8 @@ module _ (frame : List ℕ) (n : ℕ) (source target : List ℕ) where
         p .ethernet,
         p .ip,
         record { no-icmp = λ e. no-1 (same ∙ e); no-tcp = λ e. no-6 (same ∙ e); no-udp = λ e. no-17 (same ∙ e) },
+        p .ethernet-placed,
+        p .ip-placed,
       )
 
   -- an echo reply
@@ -63,12 +65,14 @@ module _ (frame : List ℕ) (n : ℕ) (source target : List ℕ) where
           carried = p .protocol-is;
           size = omega arith;
           sums = rw (p .payload-is) (a .sums);
-          split = payload-placed p 8 42 refl;
         },
+        p .ethernet-placed,
+        p .ip-placed,
+        payload-placed p 8 42 refl,
       )
 
   -- a datagram
-  pub datagram-derived : (sport dport : ℕ) (d : List ℕ) → Packet frame n 17 source target (datagram sport dport d) → UDP (body frame) (parts 34 42 n)
+  pub datagram-derived : (sport dport : ℕ) (d : List ℕ) → Packet frame n 17 source target (datagram sport dport d) → UDP (body frame)
   datagram-derived sport dport d p =
       let a : DatagramOf (payload (body frame)) sport dport = rw (p .payload-is) (datagram-reads-back sport dport d) in
       record {
@@ -76,7 +80,6 @@ module _ (frame : List ℕ) (n : ℕ) (source target : List ℕ) where
         size = omega (arith, ap length (p .payload-is), length-datagram sport dport d);
         stated = a .length-is;
         sums = unsummed (a .checksum-0);
-        split = payload-placed p 8 42 refl;
       }
 
   -- a datagram that carries no DHCP
@@ -87,8 +90,8 @@ module _ (frame : List ℕ) (n : ℕ) (source target : List ℕ) where
       let a : DatagramOf (payload (body frame)) sport dport = rw (p .payload-is) (datagram-reads-back sport dport d) in
       let from = sym (a .source-port) in
       let to = sym (a .target-port) in
-      let no-dhcp : CarriesDHCP (payload (body frame)) → ⊥ = elim [ inl c ↦ no-67-68 (from ∙ c .0) (to ∙ c .1) | inr c ↦ no-68-67 (from ∙ c .0) (to ∙ c .1) ] in
-      (p .ethernet, p .ip, datagram-derived sport dport d p, no-dhcp)
+      let no-dhcp : CarriesDHCP (body frame) → ⊥ = elim [ inl c ↦ no-67-68 (from ∙ c .0) (to ∙ c .1) | inr c ↦ no-68-67 (from ∙ c .0) (to ∙ c .1) ] in
+      (p .ethernet, p .ip, datagram-derived sport dport d p, p .ethernet-placed, p .ip-placed, payload-placed p 8 42 refl, no-dhcp)
 
 -- a segment
 pub tcp-derived : (frame : List ℕ) (n : ℕ) (ends : Endpoints) (seq ack flags : ℕ) (d : List ℕ) → length (ends .«src_ip») ≡ 4 → length (ends .«dst_ip») ≡ 4
@@ -98,7 +101,7 @@ tcp-derived frame n ends seq ack flags d four four′ p =
     let a : SegmentOf (payload (body frame)) ends seq ack flags = rw (p .payload-is) (segment-reads-back ends seq ack flags d) in
     let long : length (payload (body frame)) ≡ 20 + length (options flags) + length d = ap length (p .payload-is) ∙ length-segment ends seq ack flags d in
     let few : length (options flags) ≤ 8 = syn-cases (λ o k. length o ≤ 8) flags (omega arith) (omega arith) in
-    let off : u8At (payload (body frame)) 12 / 16 * 4 ≡ 20 + length (options flags) = a .offset in (
+    let off : dataOffset (body frame) * 4 ≡ 20 + length (options flags) = a .offset in (
       p .ethernet,
       p .ip,
       record {
@@ -108,6 +111,8 @@ tcp-derived frame n ends seq ack flags d four four′ p =
         most-offset = omega (arith, off, few);
         inside = omega (arith, off, long);
         sums = rw (p .pseudo-is, p .payload-is) (segment-sums-right ends seq ack flags d four four′);
-        split = payload-placed p (u8At (payload (body frame)) 12 / 16 * 4) (54 + length (options flags)) (omega (arith, off));
       },
+      p .ethernet-placed,
+      p .ip-placed,
+      payload-placed p (dataOffset (body frame) * 4) (54 + length (options flags)) (omega (arith, off)),
     )

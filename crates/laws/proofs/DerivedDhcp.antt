@@ -1,10 +1,11 @@
 -- A DHCP reply in its frame is derived by the grammar: its list is taken apart option by option, and the rest is read back.
 use Prim.Native.Nat.{ℕ, _+_, _≤_}
-use mathlib.Core.Path.{_≡_, refl, ap, subst, _∙_}
+use mathlib.Core.Path.{_≡_, refl, ap, sym, subst, _∙_}
 use mathlib.Core.Logic.{inr}
 use mathlib.Core.List.{List, [], _∷_, _++_}
 use native.Mathlib.Omega.{arith}
 use lib.ListN.{length, getD, drop, replicate}
+use lib.Seq.{drop-drop}
 use Rattle.dhcp.specs.Rfc2131.{reply}
 use Rattle.dhcp.proofs.ReadBack.{FourBytes, reply-reads-back}
 use Rattle.fields.specs.Bytes.{be32, u8At}
@@ -12,9 +13,9 @@ use Rattle.frames.specs.Rfc768.{datagram}
 use Rattle.frames.specs.declared.network.Network.{Network}
 use Rattle.frames.proofs.Lengths.{length-datagram}
 use Rattle.frames.proofs.Lists.{all-bytes}
-use Rattle.reader.specs.Grammar.{body, payload, ItemList, END, item, option, IsList, types, CarriesDHCP, DHCP, Derives}
-use Rattle.laws.specs.Derivations.{parts, replyItems, dhcpParts}
-use Rattle.laws.proofs.DerivedIp.{placed, Packet, payload-byte}
+use Rattle.reader.specs.Grammar.{body, ItemList, END, item, option, IsList, options53, CarriesDHCP, DHCP, dataAt, Derives}
+use Rattle.laws.specs.Derivations.{replyItems, dhcpParts}
+use Rattle.laws.proofs.DerivedIp.{placed, Packet, payload-placed, payload-byte}
 use Rattle.laws.proofs.Derived.{datagram-derived}
 
 -- an option in front of a list
@@ -55,20 +56,23 @@ module _ (net : Network) (mac : List ℕ) (xid type : ℕ) (four : FourBytes net
       (end-there 315 26)))))))
 
   -- the message, from the place 42 of its frame on
-  message-derived : (frame : List ℕ) → u8At frame 284 ≡ type → 1 ≤ type → type ≤ 8 → (n : ℕ) → n ≡ 342 → DHCP frame 42 (reply net mac xid type) (parts 42 282 n) replyItems
-  unfolding types
-  message-derived frame t least most n e =
+  message-derived : (frame : List ℕ) → drop 42 frame ≡ reply net mac xid type → u8At frame 284 ≡ type → 1 ≤ type → type ≤ 8 → DHCP frame 42 replyItems
+  unfolding options53
+  message-derived frame inner t least most =
       let r = reply-reads-back net mac xid type four six in
       record {
-        least = omega (arith, r .long);
-        most = omega (arith, r .long);
-        operation = inr (r .is-reply);
-        hardware = r .ethernet;
-        hardware-length = r .mac-length;
-        cookie = r .cookie-is;
-        list = reply-list;
+        header =
+            rw inner
+            (record {
+              least = omega (arith, r .long);
+              most = omega (arith, r .long);
+              operation = inr (r .is-reply);
+              hardware = r .ethernet;
+              hardware-length = r .mac-length;
+              cookie = r .cookie-is;
+            });
+        list = rw (← drop-drop 240 42 frame, inner) reply-list;
         type = record { place = 282; once = refl; least = omega (arith, t); most = omega (arith, t) };
-        split = placed 42 240 (reply net mac xid type) 42 282 n refl refl (omega (arith, r .long));
       }
 
   -- its frame
@@ -78,8 +82,21 @@ module _ (net : Network) (mac : List ℕ) (xid type : ℕ) (four : FourBytes net
   dhcp-derived frame n source target p least most =
       let m = reply net mac xid type in
       let r = reply-reads-back net mac xid type four six in
-      let inner : drop 8 (payload (body frame)) ≡ m = ap (drop 8) (p .payload-is) in
+      let inner : drop 42 frame ≡ m = sym (drop-drop 8 34 frame) ∙ ap (drop 8) (p .behind) in
       let t : u8At frame 284 ≡ type = payload-byte p 250 ∙ ap (λ (s : List ℕ). getD s 2 0) (r .type-is) in
-      let ports : CarriesDHCP (payload (body frame)) = rw (p .payload-is) (inr (refl, refl)) in
-      let message = message-derived frame t least most n (omega (arith, p .long, r .long, length-datagram 68 67 m)) in
-      ((p .ethernet, p .ip, datagram-derived frame n source target 68 67 m p, ports, rw (p .payload-at, inner) message), t)
+      let ports : CarriesDHCP (body frame) = rw (p .payload-is) (inr (refl, refl)) in
+      let at : dataAt frame ≡ 42 = omega (arith, p .payload-at) in
+      let stop : n ≡ 42 + length (drop 42 frame) = omega (arith, p .long, r .long, length-datagram 68 67 m, ap length inner) in (
+        (
+          p .ethernet,
+          p .ip,
+          datagram-derived frame n source target 68 67 m p,
+          p .ethernet-placed,
+          p .ip-placed,
+          payload-placed p 8 42 refl,
+          ports,
+          rw at (message-derived frame inner t least most),
+          rw at (placed 42 240 (drop 42 frame) 42 282 n refl refl stop),
+        ),
+        t,
+      )

@@ -17,7 +17,7 @@ use Rattle.frames.proofs.Lengths.{drop-14, drop-34, length-ipFrame}
 use Rattle.frames.proofs.Lists.{all-bytes}
 use Rattle.frames.proofs.ReadBack.{ethernet-reads-back, frame-reads-back}
 use Rattle.frames.proofs.SumsRight.{frame-header-sums-right}
-use Rattle.reader.specs.Grammar.{layer, Ethernet, body, IPv4, headerLength, protocol, payloadAt, payload, pseudoHeader}
+use Rattle.reader.specs.Grammar.{Ethernet, body, IPv4, headerLength, protocol, payload, pseudoHeader, layer, ethernetLayer, ipLayer, payloadAt, payloadLayer}
 use Rattle.sums.specs.Rfc1071.{SumsRight}
 use Rattle.laws.specs.Derivations.{parts}
 
@@ -27,32 +27,30 @@ placed at len s start mid stop e f g = λ i. parts (e i) (f i) (g i)
 
 -- a frame of `n` bytes down to its IPv4 payload
 pub record Packet (frame : List ℕ) (n proto : ℕ) (source target carried : List ℕ) : Type 0 where
-  pub ethernet : Ethernet frame 0x0800 (parts 0 14 n)
-  pub ip : IPv4 (body frame) (parts 14 34 n)
+  pub ethernet : Ethernet frame 0x0800
+  pub ip : IPv4 (body frame)
+  pub ethernet-placed : parts 0 14 n ≡ ethernetLayer frame
+  pub ip-placed : parts 14 34 n ≡ ipLayer frame
   pub protocol-is : protocol (body frame) ≡ proto
-  pub payload-at : payloadAt (body frame) ≡ 34
+  pub payload-at : payloadAt frame ≡ 34
   pub payload-is : payload (body frame) ≡ carried
+  pub behind : drop 34 frame ≡ carried
   pub pseudo-is : pseudoHeader (body frame) ≡ Rfc768.pseudoHeader source target proto (length carried)
   pub long : n ≡ 34 + length carried
 
 -- the layer that its payload is
 pub payload-placed : {frame : List ℕ} {n proto : ℕ} {source target carried : List ℕ} → Packet frame n proto source target carried
-    → (len mid : ℕ) → mid ≡ 34 + len → parts 34 mid n ≡ layer (payloadAt (body frame)) len (payload (body frame))
+    → (len mid : ℕ) → mid ≡ 34 + len → parts 34 mid n ≡ payloadLayer len frame
 payload-placed {frame} {n} p len mid e =
-    let at : 34 ≡ payloadAt (body frame) = sym (p .payload-at) in
-    let behind : mid ≡ payloadAt (body frame) + len = omega (arith, at) in
-    let stop : n ≡ payloadAt (body frame) + length (payload (body frame)) = omega (arith, at, p .long, ap length (p .payload-is)) in
-    placed (payloadAt (body frame)) len (payload (body frame)) 34 mid n at behind stop
+    let at : 34 ≡ payloadAt frame = sym (p .payload-at) in
+    let middle : mid ≡ payloadAt frame + len = omega (arith, at) in
+    let stop : n ≡ payloadAt frame + length (payload (body frame)) = omega (arith, at, p .long, ap length (p .payload-is)) in
+    placed (payloadAt frame) len (payload (body frame)) 34 mid n at middle stop
 
 -- a byte of its payload, by its place in the frame
 pub payload-byte : {frame : List ℕ} {n proto : ℕ} {source target carried : List ℕ} → Packet frame n proto source target carried
     → (i : ℕ) → u8At frame (34 + i) ≡ u8At carried i
-payload-byte {frame} p i =
-    let at : 34 + i ≡ 14 + (headerLength (body frame) + i) = omega (arith, p .payload-at) in
-    ap (u8At frame) at
-    ∙ sym (getD-drop 14 frame (headerLength (body frame) + i) 0)
-    ∙ sym (getD-drop (headerLength (body frame)) (body frame) i 0)
-    ∙ ap (λ (s : List ℕ). u8At s i) (p .payload-is)
+payload-byte {frame} p i = sym (getD-drop 34 frame i 0) ∙ ap (λ (s : List ℕ). u8At s i) (p .behind)
 
 module _ (mac source target carried : List ℕ) (id proto : ℕ) (six : length mac ≡ 6) (four : length source ≡ 4) (four′ : length target ≡ 4) where
   addresses : part (header (20 + length carried) id proto source target ++ carried) 12 8 ≡ source ++ target
@@ -67,12 +65,10 @@ module _ (mac source target carried : List ℕ) (id proto : ℕ) (six : length m
       let p = frame-reads-back source target four four′ mac carried id proto six in
       let rest : length (body frame) ≡ 20 + length carried = omega (arith, length-drop 14 frame, long) in
       let at-20 : headerLength (body frame) ≡ 20 = p .header-20 in
-      let carried-is : payload (body frame) ≡ carried =
-      drop-drop (headerLength (body frame)) 14 frame
-      ∙ ap (λ (k : ℕ). drop (14 + k) frame) at-20
-      ∙ drop-34 mac source target carried id proto six four four′ in
+      let behind : drop 34 frame ≡ carried = drop-34 mac source target carried id proto six four four′ in
+      let carried-is : payload (body frame) ≡ carried = drop-drop (headerLength (body frame)) 14 frame ∙ ap (λ (k : ℕ). drop (14 + k) frame) at-20 ∙ behind in
       record {
-        ethernet = record { whole = omega arith; typed = ethernet-reads-back mac source target carried id proto six .2; split = placed 0 14 frame 0 14 n refl refl (omega arith) };
+        ethernet = record { whole = omega arith; typed = ethernet-reads-back mac source target carried id proto six .2 };
         ip =
             record {
               version = p .version-4;
@@ -80,15 +76,15 @@ module _ (mac source target carried : List ℕ) (id proto : ℕ) (six : length m
               most-header = omega (arith, at-20);
               total = omega (arith, p .total, rest);
               inside = omega (arith, at-20, p .total);
-              reserved = omega (arith, p .unfragmented);
-              more-fragments = omega (arith, p .unfragmented);
-              offset = omega (arith, p .unfragmented);
+              unfragmented = omega (arith, p .unfragmented);
               sums = subst (λ (k : ℕ). SumsRight (take k (body frame))) (sym at-20) (frame-header-sums-right source target four four′ mac carried id proto six);
-              split = placed 14 (headerLength (body frame)) (body frame) 14 34 n refl (omega (arith, at-20)) (omega (arith, rest));
             };
+        ethernet-placed = placed 0 14 frame 0 14 n refl refl (omega arith);
+        ip-placed = placed 14 (headerLength (body frame)) (body frame) 14 34 n refl (omega (arith, at-20)) (omega (arith, rest));
         protocol-is = p .protocol-is;
         payload-at = omega (arith, at-20);
         payload-is = carried-is;
+        behind = behind;
         pseudo-is = rw (carried-is, p .protocol-is, drop-14 mac source target carried id proto six four four′, addresses);
         long = omega arith;
       }
