@@ -18,7 +18,7 @@ use Rattle.tcp.specs.Builders.{makeTcpFrame}
 use Rattle.tcp.specs.Rfc9293.{options, segment, tcpFrame}
 use Rattle.tcp.specs.declared.Endpoints.{Endpoints}
 use Rattle.tcp.proofs.InBuffer.{tcp-frame-in-buffer}
-use Rattle.laws.specs.Derivations.{DerivedAs, otherParts, udpParts, tcpParts}
+use Rattle.laws.specs.Derivations.{DerivedAs, otherDerivation, udpDerivation, tcpDerivation}
 use Rattle.laws.proofs.Demand1.{on-one}
 use Rattle.laws.proofs.Derived.{other-derived, udp-derived, tcp-derived}
 use Rattle.laws.proofs.DerivedIp.{packet, packet-in-buffer}
@@ -40,7 +40,7 @@ module _ (net : Network) (guest : Guest) (frame before after : List ℕ) (answer
 pub tcp-frame-derived : (guest : Guest) (ends : Endpoints) (seq ack flags : ℕ) (d before after : List ℕ) (answer : Answer) (n : ℕ)
     → length (ends .«dst_mac») ≡ 6 → length (ends .«src_ip») ≡ 4 → length (ends .«dst_ip») ≡ 4
     → Meets (makeTcpFrame guest ends seq ack flags d (length before)) before after answer → paper (answer .verdict) ≡ 1 ∷ n ∷ []
-    → Derives (take n after) (tcpParts n (length (options flags)))
+    → Derives (take n after) (tcpDerivation n (length (options flags)))
 unfolding tcpFrame
 tcp-frame-derived guest ends seq ack flags d before after answer n six four four′ m one =
     let b = tcp-frame-in-buffer guest before after answer n one ends seq ack flags d six four four′ m in
@@ -52,14 +52,14 @@ module _ (guest : Guest) (mac source target before after : List ℕ) (answer : A
     (six : length mac ≡ 6) (four : length source ≡ 4) (four′ : length target ≡ 4) where
   -- Every frame of `make_ip_frame` with a protocol that is not 1, 6 or 17, around any payload: other IPv4.
   pub ip-frame-derived : (protocol : ℕ) (payload : List ℕ) → (protocol ≡ 1 → ⊥) → (protocol ≡ 6 → ⊥) → (protocol ≡ 17 → ⊥)
-      → Meets (makeIpFrame guest mac source target protocol payload (length before)) before after answer → Derives (take n after) (otherParts n)
+      → Meets (makeIpFrame guest mac source target protocol payload (length before)) before after answer → Derives (take n after) (otherDerivation n)
   ip-frame-derived protocol payload no-1 no-6 no-17 m =
       other-derived _ n source target protocol payload (packet-in-buffer guest mac source target protocol payload before after answer n six four four′ m one) no-1 no-6 no-17
 
   -- Every frame of `make_ip_frame` around a datagram of `make_udp_payload`, whose `k` bytes are the first of another buffer, with any ports but 67 and 68 in either order: UDP.
   pub udp-frame-derived : (from to : ℕ) (d before′ after′ : List ℕ) (v : Verdict) (k : ℕ) → (from ≡ 67 → to ≡ 68 → ⊥) → (from ≡ 68 → to ≡ 67 → ⊥)
       → Wrote (makeUdpPayload from to d (length before′)) before′ after′ v → paper v ≡ 1 ∷ k ∷ []
-      → Meets (makeIpFrame guest mac source target 17 (take k after′) (length before)) before after answer → Derives (take n after) (udpParts n)
+      → Meets (makeIpFrame guest mac source target 17 (take k after′) (length before)) before after answer → Derives (take n after) (udpDerivation n)
   udp-frame-derived from to d before′ after′ v k no-67-68 no-68-67 w one′ m =
       udp-derived _ n source target from to d
       (packet-in-buffer guest mac source target 17 _ before after answer n six four four′ (rw (datagram-in-buffer before′ after′ v k from to d one′ w .front) at m) one)

@@ -18,11 +18,11 @@ use Rattle.tcp.specs.declared.Endpoints.{Endpoints}
 use Rattle.tcp.proofs.ReadBack.{SegmentOf, segment-reads-back}
 use Rattle.tcp.proofs.SumsRight.{segment-sums-right}
 use Rattle.tcp.proofs.TcpLaws.{length-segment, syn-cases}
-use Rattle.laws.specs.Derivations.{arpParts, otherParts, icmpParts, udpParts, tcpParts}
+use Rattle.laws.specs.Derivations.{arpDerivation, otherDerivation, icmpDerivation, udpDerivation, tcpDerivation}
 use Rattle.laws.proofs.DerivedIp.{placed, Packet, payload-placed}
 
 -- an ARP reply
-pub arp-derived : (net : Network) (request : List ℕ) → length (net .gateway) ≡ 4 → (n : ℕ) → n ≡ length (arpReply net request) → Derives (arpReply net request) (arpParts n)
+pub arp-derived : (net : Network) (request : List ℕ) → length (net .gateway) ≡ 4 → (n : ℕ) → n ≡ length (arpReply net request) → Derives (arpReply net request) (arpDerivation n)
 unfolding Derives
 arp-derived net request four n e =
     let frame = arpReply net request in
@@ -42,7 +42,7 @@ arp-derived net request four n e =
 module _ (frame : List ℕ) (n : ℕ) (source target : List ℕ) where
   -- a protocol that the grammar leaves free
   pub other-derived : (proto : ℕ) (carried : List ℕ) → Packet frame n proto source target carried → (proto ≡ 1 → ⊥) → (proto ≡ 6 → ⊥) → (proto ≡ 17 → ⊥)
-      → Derives frame (otherParts n)
+      → Derives frame (otherDerivation n)
   unfolding Derives
   other-derived proto carried p no-1 no-6 no-17 =
       let same = sym (p .protocol-is) in (
@@ -54,7 +54,7 @@ module _ (frame : List ℕ) (n : ℕ) (source target : List ℕ) where
       )
 
   -- an echo reply
-  pub echo-derived : (request : List ℕ) → 8 ≤ length request → Packet frame n 1 source target (echo request) → Derives frame (icmpParts n)
+  pub echo-derived : (request : List ℕ) → 8 ≤ length request → Packet frame n 1 source target (echo request) → Derives frame (icmpDerivation n)
   unfolding Derives
   echo-derived request h p =
       let a = echo-reads-back request (omega arith) in
@@ -84,7 +84,7 @@ module _ (frame : List ℕ) (n : ℕ) (source target : List ℕ) where
 
   -- a datagram that carries no DHCP
   pub udp-derived : (sport dport : ℕ) (d : List ℕ) → Packet frame n 17 source target (datagram sport dport d)
-      → (sport ≡ 67 → dport ≡ 68 → ⊥) → (sport ≡ 68 → dport ≡ 67 → ⊥) → Derives frame (udpParts n)
+      → (sport ≡ 67 → dport ≡ 68 → ⊥) → (sport ≡ 68 → dport ≡ 67 → ⊥) → Derives frame (udpDerivation n)
   unfolding Derives
   udp-derived sport dport d p no-67-68 no-68-67 =
       let a : DatagramOf (payload (body frame)) sport dport = rw (p .payload-is) (datagram-reads-back sport dport d) in
@@ -95,7 +95,7 @@ module _ (frame : List ℕ) (n : ℕ) (source target : List ℕ) where
 
 -- a segment
 pub tcp-derived : (frame : List ℕ) (n : ℕ) (ends : Endpoints) (seq ack flags : ℕ) (d : List ℕ) → length (ends .«src_ip») ≡ 4 → length (ends .«dst_ip») ≡ 4
-    → Packet frame n 6 (ends .«src_ip») (ends .«dst_ip») (segment ends seq ack flags d) → Derives frame (tcpParts n (length (options flags)))
+    → Packet frame n 6 (ends .«src_ip») (ends .«dst_ip») (segment ends seq ack flags d) → Derives frame (tcpDerivation n (length (options flags)))
 unfolding Derives covered
 tcp-derived frame n ends seq ack flags d four four′ p =
     let a : SegmentOf (payload (body frame)) ends seq ack flags = rw (p .payload-is) (segment-reads-back ends seq ack flags d) in

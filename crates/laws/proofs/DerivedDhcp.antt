@@ -14,7 +14,9 @@ use Rattle.frames.specs.declared.network.Network.{Network}
 use Rattle.frames.proofs.Lengths.{length-datagram}
 use Rattle.frames.proofs.Lists.{all-bytes}
 use Rattle.reader.specs.Grammar.{body, ItemList, END, item, option, IsList, options53, CarriesDHCP, DHCP, dataAt, Derives}
-use Rattle.laws.specs.Derivations.{replyItems, dhcpParts}
+use Rattle.reader.specs.Report.{partsOf}
+use Rattle.rules.specs.declared.decision.Decision.the-variants.{DhcpReply}
+use Rattle.laws.specs.Derivations.{replyItems, DerivedAs}
 use Rattle.laws.proofs.DerivedIp.{placed, Packet, payload-placed, payload-byte}
 use Rattle.laws.proofs.Derived.{datagram-derived}
 
@@ -77,8 +79,8 @@ module _ (net : Network) (mac : List ℕ) (xid type : ℕ) (four : FourBytes net
 
   -- its frame
   pub dhcp-derived : (frame : List ℕ) (n : ℕ) (source target : List ℕ) → Packet frame n 17 source target (datagram 68 67 (reply net mac xid type)) → 1 ≤ type → type ≤ 8
-      → Derives frame (dhcpParts n) × (u8At frame 284 ≡ type)
-  unfolding Derives datagram
+      → DerivedAs n frame (DhcpReply xid type)
+  unfolding Derives partsOf options53 datagram
   dhcp-derived frame n source target p least most =
       let m = reply net mac xid type in
       let r = reply-reads-back net mac xid type four six in
@@ -98,5 +100,5 @@ module _ (net : Network) (mac : List ℕ) (xid type : ℕ) (four : FourBytes net
           rw at (message-derived frame inner t least most),
           rw at (placed 42 240 (drop 42 frame) 42 282 n refl refl stop),
         ),
-        t,
+        rw t,
       )

@@ -19,18 +19,18 @@ use Rattle.frames.proofs.ReadBack.{ethernet-reads-back, frame-reads-back}
 use Rattle.frames.proofs.SumsRight.{frame-header-sums-right}
 use Rattle.reader.specs.Grammar.{Ethernet, body, IPv4, headerLength, protocol, payload, pseudoHeader, layer, ethernetLayer, ipLayer, payloadAt, payloadLayer}
 use Rattle.sums.specs.Rfc1071.{SumsRight}
-use Rattle.laws.specs.Derivations.{parts}
+use Rattle.laws.specs.Derivations.{laid}
 
 -- a layer by its places
-pub placed : (at len : ℕ) (s : List ℕ) (start mid stop : ℕ) → start ≡ at → mid ≡ at + len → stop ≡ at + length s → parts start mid stop ≡ layer at len s
-placed at len s start mid stop e f g = λ i. parts (e i) (f i) (g i)
+pub placed : (at len : ℕ) (s : List ℕ) (start mid stop : ℕ) → start ≡ at → mid ≡ at + len → stop ≡ at + length s → laid start mid stop ≡ layer at len s
+placed at len s start mid stop e f g = λ i. laid (e i) (f i) (g i)
 
 -- a frame of `n` bytes down to its IPv4 payload
 pub record Packet (frame : List ℕ) (n proto : ℕ) (source target carried : List ℕ) : Type 0 where
   pub ethernet : Ethernet frame 0x0800
   pub ip : IPv4 (body frame)
-  pub ethernet-placed : parts 0 14 n ≡ ethernetLayer frame
-  pub ip-placed : parts 14 34 n ≡ ipLayer frame
+  pub ethernet-placed : laid 0 14 n ≡ ethernetLayer frame
+  pub ip-placed : laid 14 34 n ≡ ipLayer frame
   pub protocol-is : protocol (body frame) ≡ proto
   pub payload-at : payloadAt frame ≡ 34
   pub payload-is : payload (body frame) ≡ carried
@@ -40,7 +40,7 @@ pub record Packet (frame : List ℕ) (n proto : ℕ) (source target carried : Li
 
 -- the layer that its payload is
 pub payload-placed : {frame : List ℕ} {n proto : ℕ} {source target carried : List ℕ} → Packet frame n proto source target carried
-    → (len mid : ℕ) → mid ≡ 34 + len → parts 34 mid n ≡ payloadLayer len frame
+    → (len mid : ℕ) → mid ≡ 34 + len → laid 34 mid n ≡ payloadLayer len frame
 payload-placed {frame} {n} p len mid e =
     let at : 34 ≡ payloadAt frame = sym (p .payload-at) in
     let middle : mid ≡ payloadAt frame + len = omega (arith, at) in

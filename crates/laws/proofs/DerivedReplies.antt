@@ -28,7 +28,7 @@ use Rattle.rules.specs.Same.{same}
 use Rattle.rules.specs.declared.decision.Decision.{Decision}
 use Rattle.rules.specs.declared.decision.Decision.the-variants.{Drop, DropNoting, ArpReply, EchoReply, DhcpReply, Dns, Relay, Tcp, TooLong, CutType}
 use Rattle.rules.proofs.Says.{Says, says}
-use Rattle.laws.specs.Derivations.{arpParts, icmpParts, dhcpParts, DerivedAs}
+use Rattle.laws.specs.Derivations.{arpDerivation, icmpDerivation, dhcpDerivation, DerivedAs}
 use Rattle.laws.specs.Table.{built, replyAtAmpleRoom}
 use Rattle.laws.proofs.Derived.{arp-derived, echo-derived}
 use Rattle.laws.proofs.DerivedDhcp.{dhcp-derived}
@@ -132,9 +132,9 @@ module _ (net : Network) (guest : Guest) (frame : List ℕ) (four : FourBytes ne
 
 -- whatever was decided, there is a derivation
 pub some-derivation : (n : ℕ) (reply : List ℕ) (d : Decision) → DerivedAs n reply d → (x : Derivation) × Derives reply x
-some-derivation n reply ArpReply d = (arpParts n, d)
-some-derivation n reply (EchoReply start) d = (icmpParts n, d)
-some-derivation n reply (DhcpReply xid type) d = (dhcpParts n, d .0)
+some-derivation n reply ArpReply d = (arpDerivation n, d)
+some-derivation n reply (EchoReply start) d = (icmpDerivation n, d)
+some-derivation n reply (DhcpReply xid type) d = (dhcpDerivation n, d .0)
 some-derivation n reply Drop d = absurd d
 some-derivation n reply (DropNoting xid) d = absurd d
 some-derivation n reply (Dns start len) d = absurd d
