@@ -1,18 +1,14 @@
 -- An IPv4 frame around any payload is derived down to that payload: what the grammar asks of its fields is read back from the frame.
 use Prim.Native.Nat.{ℕ, _+_}
 use mathlib.Core.Path.{_≡_, refl, ap, sym, subst, _∙_}
-use mathlib.Core.List.{List, [], _∷_, _++_}
+use mathlib.Core.List.{List, _++_}
 use native.Mathlib.Omega.{arith}
 use lib.ListN.{length, take, drop, length-drop}
 use lib.Seq.{drop-drop, getD-drop}
 use Rattle.fields.specs.Bytes.{u8At, part}
-use Rattle.frames.specs.Answer.{paper, Meets}
-use Rattle.frames.specs.Builders.{makeIpFrame}
 use Rattle.frames.specs.Rfc768
 use Rattle.frames.specs.Rfc791.{header, headerWith, ipFrame}
-use Rattle.frames.specs.declared.answer.Answer.{Answer}
-use Rattle.frames.specs.declared.answer.Guest.{Guest}
-use Rattle.frames.proofs.InBuffer.{ip-frame-in-buffer}
+use Rattle.frames.proofs.InBuffer.{InBuffer}
 use Rattle.frames.proofs.Lengths.{drop-14, drop-34, length-ipFrame}
 use Rattle.frames.proofs.Lists.{all-bytes}
 use Rattle.frames.proofs.ReadBack.{ethernet-reads-back, frame-reads-back}
@@ -89,11 +85,6 @@ module _ (mac source target carried : List ℕ) (id proto : ℕ) (six : length m
         long = omega arith;
       }
 
--- what a call that builds an IPv4 frame leaves in the buffer where it answers 1
-pub packet-in-buffer : (guest : Guest) (mac source target : List ℕ) (proto : ℕ) (carried before after : List ℕ) (answer : Answer) (n : ℕ)
-    → length mac ≡ 6 → length source ≡ 4 → length target ≡ 4
-    → Meets (makeIpFrame guest mac source target proto carried (length before)) before after answer → paper (answer .verdict) ≡ 1 ∷ n ∷ []
-    → Packet (take n after) n proto source target carried
-packet-in-buffer guest mac source target proto carried before after answer n six four four′ m one =
-    let b = ip-frame-in-buffer guest before after answer n one mac source target proto six four four′ carried m in
-    rw (b .front) (packet mac source target carried (guest .id) proto six four four′ n (b .long))
+  -- the same of the first n bytes of a buffer
+  pub packet-in-buffer : {before after : List ℕ} {n : ℕ} → InBuffer (ipFrame mac id proto source target carried) before after n → Packet (take n after) n proto source target carried
+  packet-in-buffer {n = n} b = rw (b .front) (packet n (b .long))
