@@ -152,11 +152,11 @@ module _ (net : Network) (guest : Guest) (frame before after : List ℕ) (answer
       record {
         rest-untouched = rest;
         mac-kept = ap (λ (x : Guest). x .mac) g;
-        arp-or-ipv4 = λ n. s .datagram .udp .ipv4;
-        arp-keeps-all = λ t. absurd (omega (arith, t, s .datagram .udp .ipv4));
+        arp-or-ipv4 = λ n. s .0 .datagram .udp .ipv4;
+        arp-keeps-all = λ t. absurd (omega (arith, t, s .0 .datagram .udp .ipv4));
         ipv4-takes-id = λ t. ap (λ (x : Guest). x .id) g;
-        xid-kept-but-on-dhcp = λ p. absurd (p (s .datagram .udp .carried));
-        dhcp-takes-xid = λ t p. ap (λ (x : Guest). x .xid) g ∙ s .its-xid;
+        xid-kept-but-on-dhcp = λ p. absurd (p (s .0 .datagram .udp .carried));
+        dhcp-takes-xid = λ t p. ap (λ (x : Guest). x .xid) g ∙ s .0 .its-xid;
       })
       c
   changed-by (Dns start len) s c = at (c .verdict-is) (unchanged (Verdict.Dns start len) c)

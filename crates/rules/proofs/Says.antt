@@ -2,6 +2,7 @@
 use Prim.Native.Nat.{ℕ, _≤_, _<_}
 use mathlib.Core.Path.{_≡_, refl, ap, subst, subst⁻¹, _∙_}
 use mathlib.Core.Bool.{Bool, true, false, not, _&&_}
+use mathlib.Core.Logic.{_⊎_, inl, inr}
 use mathlib.Core.List.{List}
 use native.Mathlib.Omega.{arith}
 use borrow.Author.Tests.{ltb-true, ltb-false, lt-ltb, le-ltb, eqb-true, eq-eqb, ne-eqb, not-false}
@@ -29,7 +30,7 @@ Says net frame Drop = Unit
 Says net frame (DropNoting xid) = Message frame xid
 Says net frame ArpReply = (typeOf frame ≡ 0x0806) × (42 ≤ length frame)
 Says net frame (EchoReply start) = EchoAsked net frame × (start ≡ payloadAt frame) × (length (payload frame) ≤ 65515)
-Says net frame (DhcpReply xid type) = Message frame xid
+Says net frame (DhcpReply xid type) = Message frame xid × ((type ≡ 2) ⊎ (type ≡ 5))
 Says net frame (Dns start len) = Query net frame start len
 Says net frame (Relay start len) = Outbound net frame start len
 Says net frame (Tcp len) = Segment frame len
@@ -45,9 +46,9 @@ module _ (net : Network) (frame : List ℕ) where
   unfolding Says
   noted xid m = m
 
-  answered : (xid type : ℕ) → Message frame xid → Says net frame (DhcpReply xid type)
+  answered : (xid type : ℕ) → Message frame xid → (type ≡ 2) ⊎ (type ≡ 5) → Says net frame (DhcpReply xid type)
   unfolding Says
-  answered xid type m = m
+  answered xid type m t = (m, t)
 
   asked : typeOf frame ≡ 0x0806 → 42 ≤ length frame → Says net frame ArpReply
   unfolding Says
@@ -87,6 +88,12 @@ not-both true true e p q = subst T e tt
 not-both true false e p q = subst⁻¹ T q tt
 not-both false y e p q = subst⁻¹ T p tt
 
+-- an answer that is not 0 is an offer or an acknowledgement
+offer-or-ack : (x y : Bool) (answer : ℕ) → answer ≡ pick x 2 (pick y 5 0) → eqb answer 0 ≡ false → (answer ≡ 2) ⊎ (answer ≡ 5)
+offer-or-ack true y answer e f = inl e
+offer-or-ack false true answer e f = inr e
+offer-or-ack false false answer e f = absurd (subst T (rw e at f) tt)
+
 module _ (net : Network) (frame : List ℕ) where
   arp-says : typeOf frame ≡ 0x0806 → Says net frame (arpDecision net frame)
   unfolding arpDecision
@@ -117,7 +124,7 @@ module _ (net : Network) (frame : List ℕ) where
 
   type-says : Message frame (Dhcp.transactionId (datagramData frame)) → Dhcp.magicCookie (datagramData frame) ≡ 0x63825363 → (w : Walked) → walk (datagramData frame) ≡ w
       → Says net frame (typeDecision (Dhcp.transactionId (datagramData frame)) w)
-  type-says m c (typed type) e = either (Says net frame) (eqb (answering type) 0) _ _ (λ f. noted net frame _ m) (λ f. answered net frame _ _ m)
+  type-says m c (typed type) e = either (Says net frame) (eqb (answering type) 0) _ _ (λ f. noted net frame _ m) (λ f. answered net frame _ _ m (offer-or-ack (eqb type 1) (eqb type 3) _ refl f))
   type-says m c (cut place) e = cut-off net frame place (record { message = m; cookie = c; cut-off = e })
 
   dhcp-says : Datagram frame → sourcePort (payload frame) ≡ 68 → targetPort (payload frame) ≡ 67 → Says net frame (dhcpDecision (datagramData frame))
