@@ -7,3 +7,4 @@ pub mod Derived
 pub mod DerivedDhcp
 pub mod DerivedReplies
 pub mod Demand3
+pub mod NamedFrames

@@ -1,0 +1,53 @@
+-- The frame grammar is neither empty nor everything: of document 01's frames some are derived and others are not, and a checksum is right as 0 and as 0xffff. All by computation.
+use Prim.Native.Nat.{ℕ}
+use mathlib.Core.Path.{refl}
+use mathlib.Core.Logic.{_⊎_, inl, inr}
+use mathlib.Core.List.{List, [], _∷_, _++_}
+use native.Mathlib.Omega.{arith}
+use lib.ListN.{take}
+use Rattle.reader.specs.Grammar.{Derivation, arp, other, icmp, udp, dhcp, tcp, Ethernet, body, ARP, IPv4, Derives}
+use Rattle.sums.specs.Rfc1071.{words, sum, total, fold, SumsRight}
+use Rattle.laws.specs.Derivations.{arpDerivation, icmpDerivation}
+use Rattle.laws.specs.Marked.{arpRequest, ping, pong}
+
+-- A1's request
+pub request-derived : Derives arpRequest (arpDerivation 42)
+unfolding Derives
+request-derived =
+    (omega arith, record { size = refl; hardware = refl; protocol-type = refl; hardware-length = refl; protocol-length = refl; operation = inl refl }, refl)
+
+-- P1's reply
+pub pong-derived : Derives pong (icmpDerivation 42)
+unfolding Derives SumsRight total words sum fold
+pong-derived = (omega arith, omega arith, omega arith, refl, refl, refl)
+
+-- a derived frame is ARP or IPv4
+arp-or-ipv4 : (frame : List ℕ) (d : Derivation) → Derives frame d → (Ethernet frame 0x0806 × ARP (body frame)) ⊎ (Ethernet frame 0x0800 × IPv4 (body frame))
+unfolding Derives
+arp-or-ipv4 frame (arp ethernet) x = inl (x .0, x .1)
+arp-or-ipv4 frame (other ethernet ip) x = inr (x .0, x .1)
+arp-or-ipv4 frame (icmp ethernet ip message) x = inr (x .0, x .1)
+arp-or-ipv4 frame (udp ethernet ip datagram) x = inr (x .0, x .1)
+arp-or-ipv4 frame (dhcp ethernet ip datagram message items) x = inr (x .0, x .1)
+arp-or-ipv4 frame (tcp ethernet ip segment) x = inr (x .0, x .1)
+
+-- P1's ping, whose IPv4 header has the checksum 0
+pub ping-outside : (d : Derivation) → Derives ping d → ⊥
+unfolding SumsRight total words sum fold
+ping-outside d x = elim (arp-or-ipv4 ping d x) [ inl a ↦ omega arith | inr i ↦ omega arith ]
+
+-- "41-byte ARP"
+pub cut-request-outside : (d : Derivation) → Derives (take 41 arpRequest) d → ⊥
+cut-request-outside d x = elim (arp-or-ipv4 (take 41 arpRequest) d x) [ inl a ↦ omega arith | inr i ↦ omega arith ]
+
+-- a pong with this checksum in its IPv4 header and in its ICMP message; the other words of each sum to 65,535
+abbrev pub storing : (checksum : List ℕ) → List ℕ
+storing checksum =
+    (0x52 ∷ 0x54 ∷ 0x00 ∷ 0x12 ∷ 0x34 ∷ 0x56 ∷ 0x52 ∷ 0x54 ∷ 0x00 ∷ 0x00 ∷ 0x00 ∷ 0x01 ∷ 0x08 ∷ 0x00 ∷ [])
+    ++ (0x45 ∷ 0x00 ∷ 0x00 ∷ 0x1c ∷ 0x22 ∷ 0xd1 ∷ 0x40 ∷ 0x00 ∷ 0x40 ∷ 0x01 ∷ []) ++ checksum ++ (0x0a ∷ 0x00 ∷ 0x02 ∷ 0x02 ∷ 0x0a ∷ 0x00 ∷ 0x02 ∷ 0x0f ∷ [])
+    ++ (0x00 ∷ 0x00 ∷ []) ++ checksum ++ (0xff ∷ 0xff ∷ 0x00 ∷ 0x00 ∷ [])
+
+-- "A stored checksum of 0 or 0xffff may both be right; recomputing and comparing would refuse one."
+pub both-checksums-derived : Derives (storing (0x00 ∷ 0x00 ∷ [])) (icmpDerivation 42) × Derives (storing (0xff ∷ 0xff ∷ [])) (icmpDerivation 42)
+unfolding Derives SumsRight total words sum fold
+both-checksums-derived = ((omega arith, omega arith, omega arith, refl, refl, refl), (omega arith, omega arith, omega arith, refl, refl, refl))
