@@ -1,6 +1,7 @@
--- Demand 3, of what we build: after the answer 1 with n the first n bytes of the buffer are derived by the frame grammar, since by the call's contract they are the frame built.
+-- Demand 3, sentence by sentence: of whatever keeps `read`'s promise, from `Exact` and `Unique`, and of what we build, which by the calls' contracts are the frames of `Derived`.
 use Prim.Native.Nat.{ℕ}
 use mathlib.Core.Path.{_≡_}
+use mathlib.Core.Logic.{_↔_}
 use mathlib.Core.List.{List, [], _∷_}
 use lib.ListN.{length, take, drop}
 use Rattle.dhcp.proofs.ReadBack.{FourBytes}
@@ -15,6 +16,10 @@ use Rattle.frames.specs.declared.answer.Verdict.{Verdict}
 use Rattle.frames.specs.declared.network.Network.{Network}
 use Rattle.frames.proofs.InBuffer.{ip-frame-in-buffer, ip-frame-in-place-in-buffer, datagram-in-buffer}
 use Rattle.reader.specs.Grammar.{Derivation, Derives}
+use Rattle.reader.specs.Report.{refused, partsOf, Reads, told}
+use Rattle.reader.specs.declared.parts.Reading.{Reading}
+use Rattle.reader.proofs.Exact.{parts-reported, derivation-behind, derived-taken, underived-refused}
+use Rattle.reader.proofs.Unique.{unique}
 use Rattle.rules.specs.Rules.{decision, outcome}
 use Rattle.tcp.specs.Builders.{makeTcpFrame}
 use Rattle.tcp.specs.Rfc9293.{options, segment, tcpFrame}
@@ -26,6 +31,24 @@ use Rattle.laws.proofs.Derived.{other-derived, udp-derived, tcp-derived
 use Rattle.laws.proofs.DerivedIp.{Packet, packet-in-buffer}
 use Rattle.laws.proofs.DerivedReplies.{built-derived, some-derivation}
 
+-- "An added strict reader accepts a byte string exactly when document 01's frame grammar derives it."
+pub accepts-exactly : (s : List ℕ) (r : Reading) → Reads s (told r) → ((told r ≡ refused 8 → ⊥) ↔ ((d : Derivation) × Derives s d))
+accepts-exactly s r kept =
+    ((λ f. let b = derivation-behind s (told r) kept f in (b .0, b .1)), (λ h. derived-taken s (told r) kept (h .0) (h .1)))
+
+-- and it answers 8 exactly when the grammar doesn't
+pub refuses-exactly : (s : List ℕ) (r : Reading) → Reads s (told r) → ((told r ≡ refused 8) ↔ ((d : Derivation) → Derives s d → ⊥))
+refuses-exactly s r kept = ((λ e d h. derived-taken s (told r) kept d h e), underived-refused s (told r) kept)
+
+-- "The derivation is the only one"
+pub only-derivation : (s : List ℕ) (d e : Derivation) → Derives s d → Derives s e → d ≡ e
+only-derivation s d e h k = unique s d e h k
+
+-- "and the reported parts are its parts."
+pub reports-its-parts : (s : List ℕ) (r : Reading) → Reads s (told r) → (d : Derivation) → Derives s d → told r ≡ partsOf s d
+reports-its-parts s r kept d h = parts-reported s (told r) kept d h
+
+-- "Every reply to a guest frame, like every TCP frame built, is derived by the grammar.": after the answer 1 with n the reply is the first n bytes of the buffer.
 -- That arrays have the lengths that their types say, 6 bytes a MAC and 4 an address, is a hypothesis throughout.
 
 -- Every reply of `handle_on`, to any frame, from any record, with any buffer and on any network: an ARP reply as ARP, an echo reply as ICMP, a DHCP reply as DHCP, with its type.

@@ -1,14 +1,18 @@
 -- The frame grammar is neither empty nor everything: of document 01's frames some are derived and others are not, and a checksum is right as 0 and as 0xffff. All by computation.
 use Prim.Native.Nat.{ℕ}
-use mathlib.Core.Path.{refl}
+use mathlib.Core.Path.{_≡_, refl}
 use mathlib.Core.Logic.{_⊎_, inl, inr}
 use mathlib.Core.List.{List, [], _∷_, _++_}
 use native.Mathlib.Omega.{arith}
 use lib.ListN.{take}
 use Rattle.reader.specs.Grammar.{Derivation, arp, other, icmp, udp, dhcp, tcp, Ethernet, body, ARP, IPv4, Derives}
+use Rattle.reader.specs.Report.{parts, refused, partsOf, Reads, told}
+use Rattle.reader.specs.Report as Report
+use Rattle.reader.specs.declared.parts.Reading.{Reading}
 use Rattle.sums.specs.Rfc1071.{words, sum, total, fold, SumsRight}
-use Rattle.laws.specs.Derivations.{arpDerivation, icmpDerivation}
+use Rattle.laws.specs.Derivations.{laid, arpDerivation, icmpDerivation}
 use Rattle.laws.specs.Marked.{arpRequest, ping, pong}
+use Rattle.laws.proofs.Demand3.{refuses-exactly, reports-its-parts}
 
 -- A1's request
 pub request-derived : Derives arpRequest (arpDerivation 42)
@@ -35,6 +39,14 @@ arp-or-ipv4 frame (tcp ethernet ip segment) x = inr (x .0, x .1)
 pub ping-outside : (d : Derivation) → Derives ping d → ⊥
 unfolding SumsRight total words sum fold
 ping-outside d x = elim (arp-or-ipv4 ping d x) [ inl a ↦ omega arith | inr i ↦ omega arith ]
+
+-- so the reader neither takes all nor refuses all: whatever keeps its promise takes the one, with these parts, and refuses the other
+pub pong-read : (r : Reading) → Reads pong (told r) → told r ≡ parts Report.ICMP (laid 0 14 42 ∷ laid 14 34 42 ∷ laid 34 42 42 ∷ []) []
+unfolding partsOf
+pong-read r kept = reports-its-parts pong r kept (icmpDerivation 42) pong-derived
+
+pub ping-refused : (r : Reading) → Reads ping (told r) → told r ≡ refused 8
+ping-refused r kept = refuses-exactly ping r kept .1 ping-outside
 
 -- "41-byte ARP"
 pub cut-request-outside : (d : Derivation) → Derives (take 41 arpRequest) d → ⊥
