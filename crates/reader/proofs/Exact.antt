@@ -2,10 +2,10 @@
 -- none. So two answers to one frame are equal.
 use Prim.Native.Nat.{ℕ}
 use mathlib.Core.Path.{_≡_, refl, ap, sym, subst, _∙_}
-use mathlib.Core.List.{List, [], _∷_}
+use mathlib.Core.List.{List}
 use lib.ListN.{getD}
 use Rattle.reader.specs.Grammar.{Layer, Derivation, arp, other, icmp, udp, dhcp, tcp, Derives}
-use Rattle.reader.specs.Report.{Kind, Report, parts, refused, partsOf, Reads, takes, refuses, told}
+use Rattle.reader.specs.Report.{Report, parts, refused, partsOf, Reads, takes, refuses, told}
 use Rattle.reader.specs.Report as Report
 use Rattle.reader.specs.declared.parts.Layer.{Layer as Parts·Layer}
 use Rattle.reader.specs.declared.parts.Reading.{Reading}

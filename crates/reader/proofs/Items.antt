@@ -1,16 +1,13 @@
 -- How a DHCP list starts: its first byte says which form it has, and with it where the rest goes on. So it is read in one way only.
 use Prim.Native.Nat.{ℕ, zero, suc, _+_, _≤_, _<_}
 use mathlib.Core.Path.{_≡_, refl, ap, sym, subst, _∙_}
-use mathlib.Core.Bool.{true, false}
 use mathlib.Core.List.{List, [], _∷_, _++_}
 use native.Mathlib.Omega.{arith}
-use lib.Dec.{eqb}
-use lib.ListN.{length, drop, replicate, getD, take, length-append, take-append-drop, drop-of-length-le}
+use lib.ListN.{length, drop, replicate, getD, length-append, drop-of-length-le}
 use native.Mathlib.Numerals.{add-one}
 use Rattle.reader.specs.Helpers.{AllZero}
-use lib.Seq.{drop-at, drop-cons, length-take-le}
-use borrow.Author.Tests.{ne-eqb}
-use Rattle.reader.specs.Grammar.{Item, pad, option, ItemList, END, item, IsItem, IsList, options53, with53}
+use lib.Seq.{drop-at, drop-cons}
+use Rattle.reader.specs.Grammar.{pad, option, ItemList, END, item, IsList}
 
 pub no-cons : {A : Type 0} (x : A) (l : List A) → _≡_ {A = List A} [] (x ∷ l) → ⊥
 no-cons {A} x l e = subst Empty e tt

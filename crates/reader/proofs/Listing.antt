@@ -8,7 +8,7 @@ use native.Mathlib.Nat.{pos-of-ne-zero, not-suc-le-zero}
 use native.Mathlib.Omega.{arith}
 use native.Mathlib.Numerals.{add-one}
 use lib.Dec.{lit≤}
-use lib.ListN.{length, drop, take, replicate, length-drop, drop-of-length-le, take-append-drop}
+use lib.ListN.{length, drop, take, length-drop, drop-of-length-le, take-append-drop}
 use lib.Seq.{drop-cons, drop-drop, length-take-le}
 use borrow.Author.Tests.{ne-eqb, eqb-false}
 use Rattle.fields.specs.Bytes.{u8At}

@@ -1,14 +1,14 @@
 -- A frame has one derivation: its type, protocol and ports say which kind it can be, and each kind's parts are functions of the frame.
-use Prim.Native.Nat.{ℕ, zero, suc, _+_, _*_, _/_, _≤_}
+use Prim.Native.Nat.{ℕ, _+_, _*_, _≤_}
 use mathlib.Core.Path.{_≡_, refl, ap, ap₂, sym, subst, _∙_}
-use mathlib.Core.Bool.{true, false}
+use mathlib.Core.Bool.{false}
 use mathlib.Core.List.{List, [], _∷_}
 use native.Mathlib.Nat.{lt-irrefl, not-suc-le-zero}
 use lib.Dec.{eqb}
 use lib.ListN.{length, drop, replicate, length-replicate}
 use borrow.Author.Tests.{eqb-false}
-use Rattle.fields.specs.Bytes.{u8At, u16At}
-use Rattle.reader.specs.Grammar.{Layer, Item, pad, option, ItemList, END, item, IsList, Derivation, arp, other, icmp, udp, dhcp, tcp, body, protocol, dataOffset, OtherIPv4, CarriesDHCP, ethernetLayer, ipLayer, payloadLayer, dataAt, messageLayer, Derives}
+use Rattle.fields.specs.Bytes.{u16At}
+use Rattle.reader.specs.Grammar.{Layer, pad, option, ItemList, END, item, IsList, Derivation, arp, other, icmp, udp, dhcp, tcp, body, protocol, dataOffset, OtherIPv4, CarriesDHCP, ethernetLayer, ipLayer, payloadLayer, dataAt, messageLayer, Derives}
 use Rattle.reader.proofs.Items.{Starts, ends, pads, opts, starts, list-nil, head-same, tail-same}
 
 -- two numbers in one place

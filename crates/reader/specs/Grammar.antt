@@ -2,7 +2,7 @@
 -- end), `u16At` and `u32At` are big-endian, and `SumsRight` is RFC 1071's. A place is counted from the frame's first byte. (`abbrev` and `unfoldable` are for the prover alone.)
 use Prim.Native.Nat.{ℕ, _+_, _*_, _/_, _%_, _≤_}
 use mathlib.Core.Path.{_≡_}
-use mathlib.Core.Bool.{Bool, true, false}
+use mathlib.Core.Bool.{true, false}
 use mathlib.Core.Logic.{_⊎_}
 use mathlib.Core.List.{List, [], _∷_, _++_}
 use lib.Dec.{eqb}

@@ -1,8 +1,5 @@
 // The strict reader: it takes a frame exactly when document 01's grammar derives it, and reports the
 // derivation's parts. It relies on no check by its caller; the gateway does not use it.
-ghost use mathlib.Core.Path.{_≡_};
-ghost use Prim.Native.Nat.{_≤_};
-ghost use lib.ListN.{length};
 ghost use Rattle.reader.specs.Grammar.{Ethernet, IPv4, body};
 ghost use Rattle.reader.specs.Report.{Reads, told};
 

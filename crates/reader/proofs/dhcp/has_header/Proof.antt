@@ -1,8 +1,7 @@
 -- `has_header` meets its contract: each test is a field of the rule.
 use borrow.Author.Needs.{needs}
-use mathlib.Core.Path.{sym, subst, _∙_}
+use mathlib.Core.Path.{sym, _∙_}
 use native.Mathlib.Omega.{arith}
-use native.Mathlib.Nat.{lt-irrefl, lt-of-lt-of-le, lt-of-le-of-lt}
 use Rattle.reader.proofs.Telling.{tells-eq, one-or-two, at-least-1, at-most-2}
 use Rattle.reader.proofs.dhcp.has_header.Statement.{statement}
 use Rattle.reader.proofs.dhcp.has_header.Tie as tie
@@ -39,7 +38,6 @@ u32be-requires c κs = search needs
 
 returns-7 : tie.Need-returns-7
 returns-7 c =
-    let operation = c .before .before .before .before .before .before .before .byte-at in
     tells-eq (c .u32be .result) 0x63825363
     (λ e.
     record {

@@ -1,7 +1,6 @@
 -- `zeros` meets its contract: what was passed so far is 0, so all of it is 0 exactly when the rest is.
 use borrow.Author.Needs.{needs}
-use Prim.Native.Nat.{ℕ, _+_, _-_}
-use native.Mathlib.Omega.{arith}
+use Prim.Native.Nat.{_-_}
 use lib.ListN.{length, drop}
 use Rattle.reader.specs.Helpers.{AllZero}
 use Rattle.reader.proofs.Items.{zero-first, zero-rest, zero-more, zero-none}

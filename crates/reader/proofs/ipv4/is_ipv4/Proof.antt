@@ -1,7 +1,7 @@
 -- `is_ipv4` meets its contract: each test is a field of the rule.
 use borrow.Author.Needs.{needs}
 use Prim.Native.Nat.{ℕ, _+_}
-use mathlib.Core.Path.{refl, ap, _∙_}
+use mathlib.Core.Path.{ap, _∙_}
 use mathlib.Core.List.{List}
 use native.Mathlib.Omega.{arith}
 use lib.ListN.{take, length-take}

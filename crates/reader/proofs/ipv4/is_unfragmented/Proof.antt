@@ -1,7 +1,6 @@
 -- `is_unfragmented` meets its contract: shift and mask are quotient and remainder.
 use borrow.Author.Needs.{needs}
-use mathlib.Core.Path.{ap, sym, _∙_}
-use Prim.Native.Nat.{ℕ, _/_, _%_}
+use Prim.Native.Nat.{_/_}
 use native.Mathlib.Omega.{arith}
 use lib.Bits.{bitAnd, and-mask}
 use Rattle.reader.specs.Grammar.{Unfragmented}

@@ -1,7 +1,7 @@
 -- `is_icmp` meets its contract: each test is a field of the rule.
 use borrow.Author.Needs.{needs}
 use Prim.Native.Nat.{ℕ, _+_}
-use mathlib.Core.Path.{ap, sym, _∙_}
+use mathlib.Core.Path.{ap, _∙_}
 use mathlib.Core.List.{List}
 use native.Mathlib.Omega.{arith}
 use lib.ListN.{length}
@@ -26,7 +26,6 @@ part-message-end c = search needs
 returns : tie.Need-returns
 returns c =
     let p : List ℕ = c .before .before .before .before .args .packet .now in
-    let known = c .before .before .before .before .pre in
     let e = rest p (c .before .before .header-length .result) (headerLength p) (c .before .before .header-length .ensures .0) in
     let len = ap length e in
     λ a. omega (arith, len, a .size)

@@ -1,12 +1,12 @@
 -- `is_udp` meets its contract: each test is a field of the rule.
 use borrow.Author.Needs.{needs}
-use Prim.Native.Nat.{ℕ, _+_}
+use Prim.Native.Nat.{ℕ}
 use mathlib.Core.Path.{ap, sym, _∙_}
 use mathlib.Core.List.{List}
 use native.Mathlib.Omega.{arith}
 use lib.ListN.{length}
 use Rattle.fields.specs.Bytes.{u16At}
-use Rattle.reader.specs.Grammar.{UDP, headerLength, payload, unsummed, summed}
+use Rattle.reader.specs.Grammar.{UDP, headerLength, unsummed, summed}
 use Rattle.reader.proofs.Telling.{tells-same, rest, has-to-sum}
 use Rattle.reader.proofs.payloads.is_udp.Statement.{statement}
 use Rattle.reader.proofs.payloads.is_udp.Tie as tie
@@ -26,7 +26,6 @@ part-datagram-end c = search needs
 returns : tie.Need-returns
 returns c =
     let p : List ℕ = c .before .before .before .before .args .packet .now in
-    let known = c .before .before .before .before .pre in
     let e = rest p (c .before .before .header-length .result) (headerLength p) (c .before .before .header-length .ensures .0) in
     let len = ap length e in
     λ a. omega (arith, len, a .size)
@@ -40,7 +39,6 @@ cast-if2 c = search needs
 returns-2 : tie.Need-returns-2
 returns-2 c =
     let p : List ℕ = c .before .before .before .before .before .before .args .packet .now in
-    let known = c .before .before .before .before .before .before .pre in
     let e = rest p (c .before .before .before .before .header-length .result) (headerLength p) (c .before .before .before .before .header-length .ensures .0) in
     let len = ap length e in
     λ a. c .if2 .taken (c .before .u16be .ensures ∙ ap (λ (m : List ℕ). u16At m 4) e ∙ a .stated ∙ sym len)

@@ -1,9 +1,7 @@
 -- `tcp_header_length` meets its contract: the shifts leave the high four bits and multiply by four.
 use borrow.Author.Needs.{needs}
-use mathlib.Core.Path.{ap, _∙_}
-use Prim.Native.Nat.{ℕ, _+_, _*_, _/_}
+use mathlib.Core.Path.{_∙_}
 use native.Mathlib.Omega.{arith}
-use Rattle.fields.specs.Bytes.{u8At}
 use Rattle.reader.proofs.Telling.{byte-behind}
 use Rattle.reader.proofs.payloads.tcp_header_length.Statement.{statement}
 use Rattle.reader.proofs.payloads.tcp_header_length.Tie as tie
