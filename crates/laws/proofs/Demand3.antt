@@ -72,6 +72,10 @@ module _ (guest : Guest) (frame before after : List ℕ) (answer : Answer) (n : 
   pub handle-in-grammar : (d : Derivation) × Derives (take n after) d
   handle-in-grammar = reply-in-grammar network guest frame before after answer n four-bytes six m one
 
+  -- so the strict reader takes each
+  pub reply-taken : (r : Reading) → Reads (take n after) (told r) → told r ≡ refused 8 → ⊥
+  reply-taken r kept = accepts-exactly (take n after) r kept .1 handle-in-grammar
+
 -- Every frame of `make_tcp_frame`, with options and without: TCP.
 pub tcp-frame-derived : (guest : Guest) (ends : Endpoints) (seq ack flags : ℕ) (d before after : List ℕ) (answer : Answer) (n : ℕ)
     → length (ends .«dst_mac») ≡ 6 → length (ends .«src_ip») ≡ 4 → length (ends .«dst_ip») ≡ 4

@@ -1,14 +1,15 @@
 -- The frame grammar is neither empty nor everything: of document 01's frames some are derived and others are not, and a checksum is right as 0 and as 0xffff. All by computation.
 use Prim.Native.Nat.{ℕ}
 use mathlib.Core.Path.{_≡_, refl}
-use mathlib.Core.Logic.{_⊎_, inl, inr}
+use mathlib.Core.Logic.{inl, inr}
 use mathlib.Core.List.{List, [], _∷_, _++_}
 use native.Mathlib.Omega.{arith}
 use lib.ListN.{take}
-use Rattle.reader.specs.Grammar.{Derivation, arp, other, icmp, udp, dhcp, tcp, Ethernet, body, ARP, IPv4, Derives}
+use Rattle.reader.specs.Grammar.{Derivation, Derives}
 use Rattle.reader.specs.Report.{parts, refused, partsOf, Reads, told}
 use Rattle.reader.specs.Report as Report
 use Rattle.reader.specs.declared.parts.Reading.{Reading}
+use Rattle.reader.proofs.Unique.{arp-or-ipv4}
 use Rattle.sums.specs.Rfc1071.{words, sum, total, fold, SumsRight}
 use Rattle.laws.specs.Derivations.{laid, arpDerivation, icmpDerivation}
 use Rattle.laws.specs.Marked.{arpRequest, ping, pong}
@@ -24,16 +25,6 @@ request-derived =
 pub pong-derived : Derives pong (icmpDerivation 42)
 unfolding Derives SumsRight total words sum fold
 pong-derived = (omega arith, omega arith, omega arith, refl, refl, refl)
-
--- a derived frame is ARP or IPv4
-arp-or-ipv4 : (frame : List ℕ) (d : Derivation) → Derives frame d → (Ethernet frame 0x0806 × ARP (body frame)) ⊎ (Ethernet frame 0x0800 × IPv4 (body frame))
-unfolding Derives
-arp-or-ipv4 frame (arp ethernet) x = inl (x .0, x .1)
-arp-or-ipv4 frame (other ethernet ip) x = inr (x .0, x .1)
-arp-or-ipv4 frame (icmp ethernet ip message) x = inr (x .0, x .1)
-arp-or-ipv4 frame (udp ethernet ip datagram) x = inr (x .0, x .1)
-arp-or-ipv4 frame (dhcp ethernet ip datagram message items) x = inr (x .0, x .1)
-arp-or-ipv4 frame (tcp ethernet ip segment) x = inr (x .0, x .1)
 
 -- P1's ping, whose IPv4 header has the checksum 0
 pub ping-outside : (d : Derivation) → Derives ping d → ⊥

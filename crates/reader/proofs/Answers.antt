@@ -17,7 +17,7 @@ use Rattle.reader.specs.Report as Report
 use Rattle.reader.specs.declared.parts.Layer.{Layer as Parts·Layer}
 use Rattle.reader.specs.declared.parts.Reading.the-variants.{Arp, OtherIpv4, Icmp, Udp, Dhcp, Tcp, Outside}
 use Rattle.reader.proofs.Telling.{first-of, second-of}
-use Rattle.reader.proofs.Unique.{icmp-only, dhcp-only, tcp-only}
+use Rattle.reader.proofs.Unique.{arp-or-ipv4, icmp-only, dhcp-only, tcp-only}
 
 -- a layer as the code has it
 abbrev pub from : (header payload stop : ℕ) → Parts·Layer
@@ -40,28 +40,18 @@ module _ (s : List ℕ) where
   unfolding told
   refusing f = refuses refl f
 
-  -- every derivation has one of the two types, with the body that goes with it
-  frame-right : (d : Derivation) → Derives s d → (Ethernet s 0x0806 × ARP p) ⊎ (Ethernet s 0x0800 × IPv4 p)
-  unfolding Derives
-  frame-right (arp e) h = inl (h .0, h .1)
-  frame-right (other e i) h = inr (h .0, h .1)
-  frame-right (icmp e i m) h = inr (h .0, h .1)
-  frame-right (udp e i u) h = inr (h .0, h .1)
-  frame-right (dhcp e i u m items) h = inr (h .0, h .1)
-  frame-right (tcp e i g) h = inr (h .0, h .1)
-
   whole : (Ethernet s 0x0806 × ARP p) ⊎ (Ethernet s 0x0800 × IPv4 p) → 14 ≤ length s
   whole (inl a) = a .0 .whole
   whole (inr i) = i .0 .whole
 
   pub short-frame : length s < 14 → Reads s (told Outside)
-  short-frame h = refusing (λ d g. let w = whole (frame-right d g) in omega (arith, w))
+  short-frame h = refusing (λ d g. let w = whole (arp-or-ipv4 s d g) in omega (arith, w))
 
   pub no-arp : u16At s 12 ≡ 0x0806 → (ARP p → ⊥) → Reads s (told Outside)
-  no-arp t f = refusing (λ d g. f (first-of (frame-right d g) (λ i. eqb-false 0x0800 0x0806 refl (sym (i .0 .typed) ∙ t)) .1))
+  no-arp t f = refusing (λ d g. f (first-of (arp-or-ipv4 s d g) (λ i. eqb-false 0x0800 0x0806 refl (sym (i .0 .typed) ∙ t)) .1))
 
   pub no-ipv4 : (u16At s 12 ≡ 0x0806 → ⊥) → (u16At s 12 ≡ 0x0800 → IPv4 p → ⊥) → Reads s (told Outside)
-  no-ipv4 a f = refusing (λ d g. let i = second-of (frame-right d g) (λ x. a (x .0 .typed)) in f (i .0 .typed) (i .1))
+  no-ipv4 a f = refusing (λ d g. let i = second-of (arp-or-ipv4 s d g) (λ x. a (x .0 .typed)) in f (i .0 .typed) (i .1))
 
   pub arp-taken : 14 ≤ length s → u16At s 12 ≡ 0x0806 → ARP p → Reads s (told (Arp (from 0 14 (length s))))
   unfolding told Derives partsOf

@@ -2,13 +2,14 @@
 use Prim.Native.Nat.{ℕ, _+_, _*_, _≤_}
 use mathlib.Core.Path.{_≡_, refl, ap, ap₂, sym, subst, _∙_}
 use mathlib.Core.Bool.{false}
+use mathlib.Core.Logic.{_⊎_, inl, inr}
 use mathlib.Core.List.{List, [], _∷_}
 use native.Mathlib.Nat.{lt-irrefl, not-suc-le-zero}
 use lib.Dec.{eqb}
 use lib.ListN.{length, drop, replicate, length-replicate}
 use borrow.Author.Tests.{eqb-false}
 use Rattle.fields.specs.Bytes.{u16At}
-use Rattle.reader.specs.Grammar.{Layer, pad, option, ItemList, END, item, IsList, Derivation, arp, other, icmp, udp, dhcp, tcp, body, protocol, dataOffset, OtherIPv4, CarriesDHCP, ethernetLayer, ipLayer, payloadLayer, dataAt, messageLayer, Derives}
+use Rattle.reader.specs.Grammar.{Layer, pad, option, ItemList, END, item, IsList, Derivation, arp, other, icmp, udp, dhcp, tcp, body, protocol, dataOffset, Ethernet, ARP, IPv4, OtherIPv4, CarriesDHCP, ethernetLayer, ipLayer, payloadLayer, dataAt, messageLayer, Derives}
 use Rattle.reader.proofs.Items.{Starts, ends, pads, opts, starts, list-nil, head-same, tail-same}
 
 -- two numbers in one place
@@ -68,6 +69,16 @@ list-unique (item (option place code len) rest) at (x ∷ l) b h k =
     ∙ sym (o .1)
 
 -- THE KINDS
+-- a derived frame has one of the two types, with the body that goes with it
+pub arp-or-ipv4 : (s : List ℕ) (d : Derivation) → Derives s d → (Ethernet s 0x0806 × ARP (body s)) ⊎ (Ethernet s 0x0800 × IPv4 (body s))
+unfolding Derives
+arp-or-ipv4 s (arp e) h = inl (h .0, h .1)
+arp-or-ipv4 s (other e i) h = inr (h .0, h .1)
+arp-or-ipv4 s (icmp e i m) h = inr (h .0, h .1)
+arp-or-ipv4 s (udp e i u) h = inr (h .0, h .1)
+arp-or-ipv4 s (dhcp e i u m items) h = inr (h .0, h .1)
+arp-or-ipv4 s (tcp e i g) h = inr (h .0, h .1)
+
 module _ (s : List ℕ) where
   abbrev p : List ℕ
   p = body s
