@@ -15,11 +15,12 @@ use Rattle.frames.specs.declared.answer.Guest.{Guest}
 use Rattle.frames.specs.declared.answer.Verdict.{Verdict}
 use Rattle.frames.specs.declared.network.Network.{Network}
 use Rattle.frames.proofs.InBuffer.{ip-frame-in-buffer, ip-frame-in-place-in-buffer, datagram-in-buffer}
-use Rattle.reader.specs.Grammar.{Derivation, Derives}
-use Rattle.reader.specs.Report.{refused, partsOf, Reads, told}
+use Rattle.grammar.specs.Grammar.{Derivation, Derives}
+use Rattle.grammar.specs.Report.{refused, partsOf, Reads}
+use Rattle.reader.specs.Told.{told}
 use Rattle.reader.specs.declared.parts.Reading.{Reading}
-use Rattle.reader.proofs.Exact.{parts-reported, derivation-behind, derived-taken, underived-refused}
-use Rattle.reader.proofs.Unique.{unique}
+use Rattle.grammar.proofs.Exact.{parts-reported, derivation-behind, derived-taken, underived-refused}
+use Rattle.grammar.proofs.Unique.{unique}
 use Rattle.rules.specs.Rules.{decision, outcome}
 use Rattle.tcp.specs.Builders.{makeTcpFrame}
 use Rattle.tcp.specs.Rfc9293.{options, segment, tcpFrame}

@@ -9,7 +9,7 @@ use Rattle.frames.specs.Rfc768.{datagram}
 use Rattle.frames.specs.declared.network.Network.{Network}
 use Rattle.frames.proofs.Lengths.{length-datagram}
 use Rattle.frames.proofs.ReadBack.{DatagramOf, datagram-reads-back}
-use Rattle.reader.specs.Grammar.{body, payload, CarriesDHCP, dataOffset, unsummed, UDP, Derives}
+use Rattle.grammar.specs.Grammar.{body, payload, CarriesDHCP, dataOffset, unsummed, UDP, Derives}
 use Rattle.rules.specs.Rfc792.{echo}
 use Rattle.rules.specs.Rfc826.{arpReply}
 use Rattle.slirp.proofs.ReadBack.{arp-reads-back, echo-reads-back}

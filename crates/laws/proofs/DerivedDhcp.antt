@@ -13,8 +13,8 @@ use Rattle.frames.specs.Rfc768.{datagram}
 use Rattle.frames.specs.declared.network.Network.{Network}
 use Rattle.frames.proofs.Lengths.{length-datagram}
 use Rattle.frames.proofs.Lists.{all-bytes}
-use Rattle.reader.specs.Grammar.{body, ItemList, END, item, option, IsList, options53, CarriesDHCP, DHCP, dataAt, Derives}
-use Rattle.reader.specs.Report.{partsOf}
+use Rattle.grammar.specs.Grammar.{body, ItemList, END, item, option, IsList, options53, CarriesDHCP, DHCP, dataAt, Derives}
+use Rattle.grammar.specs.Report.{partsOf}
 use Rattle.rules.specs.declared.decision.Decision.the-variants.{DhcpReply}
 use Rattle.laws.specs.Derivations.{replyItems, DerivedAs}
 use Rattle.laws.proofs.DerivedIp.{placed, Packet, payload-placed, payload-byte}

@@ -13,7 +13,7 @@ use Rattle.frames.proofs.Lengths.{drop-14, drop-34, length-ipFrame}
 use Rattle.frames.proofs.Lists.{all-bytes}
 use Rattle.frames.proofs.ReadBack.{ethernet-reads-back, frame-reads-back}
 use Rattle.frames.proofs.SumsRight.{frame-header-sums-right}
-use Rattle.reader.specs.Grammar.{Ethernet, body, IPv4, headerLength, protocol, payload, pseudoHeader, layer, ethernetLayer, ipLayer, payloadAt, payloadLayer}
+use Rattle.grammar.specs.Grammar.{Ethernet, body, IPv4, headerLength, protocol, payload, pseudoHeader, layer, ethernetLayer, ipLayer, payloadAt, payloadLayer}
 use Rattle.sums.specs.Rfc1071.{SumsRight}
 use Rattle.laws.specs.Derivations.{laid}
 

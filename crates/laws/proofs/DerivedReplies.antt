@@ -13,7 +13,7 @@ use Rattle.frames.specs.Network.{broadcastOf}
 use Rattle.frames.specs.Rfc768.{datagram}
 use Rattle.frames.specs.declared.answer.Guest.{Guest}
 use Rattle.frames.specs.declared.network.Network.{Network}
-use Rattle.reader.specs.Grammar.{Derivation, Derives}
+use Rattle.grammar.specs.Grammar.{Derivation, Derives}
 use Rattle.rules.specs.Rfc792.{echo}
 use Rattle.rules.specs.Rfc2131.{dhcpFrame}
 use Rattle.rules.specs.Rules.{decision}

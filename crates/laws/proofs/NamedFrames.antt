@@ -5,11 +5,12 @@ use mathlib.Core.Logic.{inl, inr}
 use mathlib.Core.List.{List, [], _∷_, _++_}
 use native.Mathlib.Omega.{arith}
 use lib.ListN.{take}
-use Rattle.reader.specs.Grammar.{Derivation, Derives}
-use Rattle.reader.specs.Report.{parts, refused, partsOf, Reads, told}
-use Rattle.reader.specs.Report as Report
+use Rattle.grammar.specs.Grammar.{Derivation, Derives}
+use Rattle.grammar.specs.Report.{parts, refused, partsOf, Reads}
+use Rattle.reader.specs.Told.{told}
+use Rattle.grammar.specs.Report as Report
 use Rattle.reader.specs.declared.parts.Reading.{Reading}
-use Rattle.reader.proofs.Unique.{arp-or-ipv4}
+use Rattle.grammar.proofs.Unique.{arp-or-ipv4}
 use Rattle.sums.specs.Rfc1071.{words, sum, total, fold, SumsRight}
 use Rattle.laws.specs.Derivations.{laid, arpDerivation, icmpDerivation}
 use Rattle.laws.specs.Marked.{arpRequest, ping, pong}

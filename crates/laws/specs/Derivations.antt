@@ -2,8 +2,8 @@
 use Prim.Native.Nat.{ℕ, _+_}
 use mathlib.Core.Path.{_≡_}
 use mathlib.Core.List.{List, [], _∷_}
-use Rattle.reader.specs.Grammar.{Layer, ItemList, END, item, option, Derivation, arp, other, icmp, udp, dhcp, tcp, Derives}
-use Rattle.reader.specs.Report.{DHCP, parts, partsOf}
+use Rattle.grammar.specs.Grammar.{Layer, ItemList, END, item, option, Derivation, arp, other, icmp, udp, dhcp, tcp, Derives}
+use Rattle.grammar.specs.Report.{DHCP, parts, partsOf}
 use Rattle.rules.specs.declared.decision.Decision.{Decision}
 use Rattle.rules.specs.declared.decision.Decision.the-variants.{Drop, DropNoting, ArpReply, EchoReply, DhcpReply, Dns, Relay, Tcp, TooLong, CutType}
 

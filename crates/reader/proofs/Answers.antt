@@ -9,15 +9,16 @@ use native.Mathlib.Omega.{arith}
 use borrow.Author.Tests.{eqb-false}
 use lib.ListN.{length, drop, length-drop}
 use Rattle.fields.specs.Bytes.{u16At}
-use Rattle.reader.specs.Grammar.{Layer, Derivation, arp, other, icmp, udp, dhcp, tcp, body, headerLength, payload, protocol, dataOffset, Ethernet, ARP, IPv4, OtherIPv4, ICMP, UDP, TCP, CarriesDHCP, layer, ethernetLayer, ipLayer, payloadAt, payloadLayer, dataAt, messageLayer, Derives}
+use Rattle.grammar.specs.Grammar.{Layer, Derivation, arp, other, icmp, udp, dhcp, tcp, body, headerLength, payload, protocol, dataOffset, Ethernet, ARP, IPv4, OtherIPv4, ICMP, UDP, TCP, CarriesDHCP, layer, ethernetLayer, ipLayer, payloadAt, payloadLayer, dataAt, messageLayer, Derives}
 use Rattle.reader.specs.Helpers.{Headed}
-use Rattle.reader.specs.Messages.{MessageRead}
-use Rattle.reader.specs.Report.{parts, partsOf, Reads, takes, refuses, layerOf, told}
-use Rattle.reader.specs.Report as Report
+use Rattle.messages.specs.Messages.{MessageRead}
+use Rattle.grammar.specs.Report.{parts, partsOf, Reads, takes, refuses}
+use Rattle.reader.specs.Told.{layerOf, told}
+use Rattle.grammar.specs.Report as Report
 use Rattle.reader.specs.declared.parts.Layer.{Layer as Parts·Layer}
 use Rattle.reader.specs.declared.parts.Reading.the-variants.{Arp, OtherIpv4, Icmp, Udp, Dhcp, Tcp, Outside}
-use Rattle.reader.proofs.Telling.{first-of, second-of}
-use Rattle.reader.proofs.Unique.{arp-or-ipv4, icmp-only, dhcp-only, tcp-only}
+use Rattle.messages.proofs.Telling.{first-of, second-of}
+use Rattle.grammar.proofs.Unique.{arp-or-ipv4, icmp-only, dhcp-only, tcp-only}
 
 -- a layer as the code has it
 abbrev pub from : (header payload stop : ℕ) → Parts·Layer
@@ -76,7 +77,7 @@ module _ (s : List ℕ) where
     stop-is : length s ≡ payloadAt s + length (payload p)
     stop-is = omega (arith, body-length, headed .inside, length-drop (headerLength p) p)
 
-    pub data-inside : UDP p → dataAt s ≤ length s
+    data-inside : UDP p → dataAt s ≤ length s
     data-inside u = omega (arith, stop-is, u .size)
 
     pub no-icmp : protocol p ≡ 1 → (ICMP p → ⊥) → Reads s (told Outside)

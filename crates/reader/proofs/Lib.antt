@@ -1,9 +1,5 @@
--- What the proofs of several functions use, and what holds of the grammar.
-mod Telling
+-- What the proofs of several functions use, and that `read` answers once.
+mod Reading
 mod Pseudo
-mod Items
-mod Listing
-mod Messages
-pub mod Unique
 mod Answers
-pub mod Exact
+pub mod OneAnswer

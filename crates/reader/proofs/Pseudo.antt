@@ -9,7 +9,7 @@ use Rattle.frames.specs.Rfc768.{pseudoHeader as Rfc768·pseudoHeader}
 use Rattle.frames.proofs.Lists.{part-bytes}
 use Rattle.sums.specs.Rfc1071.{total, fold}
 use Rattle.sums.proofs.Laws.{fold-more}
-use Rattle.reader.specs.Grammar.{headerLength, payload, pseudoHeader}
+use Rattle.grammar.specs.Grammar.{headerLength, payload, pseudoHeader}
 
 -- the pseudo-header of `len` bytes from the packet's fields
 abbrev pub from-fields : (p : List ℕ) (len : ℕ) → List ℕ

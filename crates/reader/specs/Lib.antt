@@ -1,4 +1,2 @@
-pub mod Grammar
-pub mod Report
+pub mod Told
 pub mod Helpers
-pub mod Messages

@@ -1,6 +1,6 @@
 // ARP: RFC 826.
-ghost use Rattle.reader.specs.Grammar.{ARP};
-ghost use Rattle.reader.specs.Helpers.{Tells};
+ghost use Rattle.grammar.specs.Grammar.{ARP};
+ghost use Rattle.messages.specs.Tells.{Tells};
 use fields::byte_at;
 use fields::u16be;
 

@@ -1,8 +1,8 @@
 // The IPv4 header: RFC 791, section 3.1.
 ghost use mathlib.Core.Path.{_≡_};
 ghost use Prim.Native.Nat.{_≤_};
-ghost use Rattle.reader.specs.Grammar.{IPv4, Unfragmented, headerLength};
-ghost use Rattle.reader.specs.Helpers.{Tells};
+ghost use Rattle.grammar.specs.Grammar.{IPv4, Unfragmented, headerLength};
+ghost use Rattle.messages.specs.Tells.{Tells};
 use fields::byte_at;
 use fields::u16be;
 use sums::sum;

@@ -1,10 +1,10 @@
 // The strict reader: it takes a frame exactly when document 01's grammar derives it, and reports the
 // derivation's parts. It relies on no check by its caller; the gateway does not use it.
-ghost use Rattle.reader.specs.Grammar.{Ethernet, IPv4, body};
-ghost use Rattle.reader.specs.Report.{Reads, told};
+ghost use Rattle.grammar.specs.Grammar.{Ethernet, IPv4, body};
+ghost use Rattle.grammar.specs.Report.{Reads};
+ghost use Rattle.reader.specs.Told.{told};
 
 mod arp;
-mod dhcp;
 mod ipv4;
 mod parts;
 mod payloads;
@@ -126,7 +126,7 @@ fn read_payload(frame: &[u8]) -> Reading
             datagram,
         };
     }
-    let message_type = dhcp::read_message(frame, data);
+    let message_type = messages::read_message(frame, data);
     if message_type == 0 {
         return Reading::Outside;
     }
@@ -136,7 +136,7 @@ fn read_payload(frame: &[u8]) -> Reading
         datagram,
         message: Layer {
             header: data,
-            payload: data + dhcp::HEADER,
+            payload: data + messages::HEADER,
             stop,
         },
         message_type,

@@ -3,12 +3,11 @@ use borrow.Author.Needs.{needs}
 use Prim.Native.Nat.{ℕ, _+_, _*_}
 use mathlib.Core.Path.{ap, sym, subst, _∙_}
 use mathlib.Core.List.{List}
-use native.Mathlib.Omega.{arith}
 use Rattle.frames.proofs.Lists.{from-on}
-use Rattle.reader.specs.Grammar.{ICMP, UDP, TCP, CarriesDHCP, body, dataOffset, headerLength, protocol}
+use Rattle.grammar.specs.Grammar.{ICMP, UDP, TCP, CarriesDHCP, body, dataOffset, headerLength, protocol}
 use Rattle.reader.specs.Helpers.{Headed}
-use Rattle.reader.proofs.Telling.{tells-not, tells-yes, of-rest}
-use Rattle.reader.proofs.Answers.{headed, data-inside, no-icmp, no-tcp, no-udp, no-dhcp, icmp-taken, tcp-taken, other-taken, udp-taken, dhcp-taken}
+use Rattle.messages.proofs.Telling.{tells-not, tells-yes, of-rest}
+use Rattle.reader.proofs.Answers.{headed, no-icmp, no-tcp, no-udp, no-dhcp, icmp-taken, tcp-taken, other-taken, udp-taken, dhcp-taken}
 use Rattle.reader.proofs.read_payload.Statement.{statement}
 use Rattle.reader.proofs.read_payload.Tie as tie
 
@@ -125,13 +124,7 @@ returns-7 c =
     udp-taken s (right .0) (right .1) _ start (tells-yes {A = UDP (body s)} (c .before .before .before .is-udp .result) (of-rest UDP 14 s (c .before .before .before .is-udp .result) (c .before .before .before .is-udp .ensures)) (c .before .before .if6 .left)) (tells-not {A = CarriesDHCP (body s)} (c .before .carries-dhcp .result) (of-rest CarriesDHCP 14 s (c .before .carries-dhcp .result) (c .before .carries-dhcp .ensures)) (c .if7 .taken))
 
 read-message-requires : tie.Need-read-message-requires
-read-message-requires c κs =
-    let s : List ℕ = c .before .before .before .before .before .before .before .before .before .before .before .args .frame .now in
-    let right = c .before .before .before .before .before .before .before .before .before .before .before .pre in
-    let packet = from-on 14 s in
-    let start = ap (λ (k : ℕ). 14 + k) (c .before .before .before .before .before .before .before .before .header-length .ensures .0 ∙ ap headerLength packet) in
-    let inside = data-inside s (right .0) (right .1) (tells-yes {A = UDP (body s)} (c .before .before .before .is-udp .result) (of-rest UDP 14 s (c .before .before .before .is-udp .result) (c .before .before .before .is-udp .ensures)) (c .before .before .if6 .left)) in
-    omega (arith, start, inside)
+read-message-requires c κs = search needs
 
 returns-8 : tie.Need-returns-8
 returns-8 c =

@@ -6,9 +6,10 @@ use mathlib.Core.List.{List}
 use native.Mathlib.Omega.{arith}
 use lib.ListN.{take, length-take}
 use Rattle.sums.specs.Rfc1071.{total, fold}
-use Rattle.reader.specs.Grammar.{headerLength}
-use Rattle.reader.specs.Grammar.{Unfragmented}
-use Rattle.reader.proofs.Telling.{tells-sums, tells-not, tells-yes}
+use Rattle.grammar.specs.Grammar.{headerLength}
+use Rattle.grammar.specs.Grammar.{Unfragmented}
+use Rattle.messages.proofs.Telling.{tells-not, tells-yes}
+use Rattle.reader.proofs.Reading.{tells-sums}
 use Rattle.reader.proofs.ipv4.is_ipv4.Statement.{statement}
 use Rattle.reader.proofs.ipv4.is_ipv4.Tie as tie
 

@@ -3,8 +3,8 @@ use borrow.Author.Needs.{needs}
 use Prim.Native.Nat.{_/_}
 use native.Mathlib.Omega.{arith}
 use lib.Bits.{bitAnd, and-mask}
-use Rattle.reader.specs.Grammar.{Unfragmented}
-use Rattle.reader.proofs.Telling.{tells-eq}
+use Rattle.grammar.specs.Grammar.{Unfragmented}
+use Rattle.messages.proofs.Telling.{tells-eq}
 use Rattle.reader.proofs.ipv4.is_unfragmented.Statement.{statement}
 use Rattle.reader.proofs.ipv4.is_unfragmented.Tie as tie
 

@@ -6,8 +6,8 @@ use mathlib.Core.List.{List}
 use native.Mathlib.Omega.{arith}
 use lib.ListN.{length}
 use Rattle.sums.specs.Rfc1071.{total, fold}
-use Rattle.reader.specs.Grammar.{headerLength, payload}
-use Rattle.reader.proofs.Telling.{tells-sums, rest}
+use Rattle.grammar.specs.Grammar.{headerLength, payload}
+use Rattle.reader.proofs.Reading.{tells-sums, rest}
 use Rattle.reader.proofs.payloads.is_icmp.Statement.{statement}
 use Rattle.reader.proofs.payloads.is_icmp.Tie as tie
 

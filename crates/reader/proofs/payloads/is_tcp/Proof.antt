@@ -4,8 +4,8 @@ use Prim.Native.Nat.{ℕ}
 use mathlib.Core.List.{List}
 use native.Mathlib.Omega.{arith}
 use lib.ListN.{length-drop}
-use Rattle.reader.specs.Grammar.{TCP, headerLength}
-use Rattle.reader.proofs.Telling.{tells-same}
+use Rattle.grammar.specs.Grammar.{TCP, headerLength}
+use Rattle.messages.proofs.Telling.{tells-same}
 use Rattle.reader.proofs.payloads.is_tcp.Statement.{statement}
 use Rattle.reader.proofs.payloads.is_tcp.Tie as tie
 

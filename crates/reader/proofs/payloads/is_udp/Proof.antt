@@ -6,8 +6,9 @@ use mathlib.Core.List.{List}
 use native.Mathlib.Omega.{arith}
 use lib.ListN.{length}
 use Rattle.fields.specs.Bytes.{u16At}
-use Rattle.reader.specs.Grammar.{UDP, headerLength, unsummed, summed}
-use Rattle.reader.proofs.Telling.{tells-same, rest, has-to-sum}
+use Rattle.grammar.specs.Grammar.{UDP, headerLength, unsummed, summed}
+use Rattle.messages.proofs.Telling.{tells-same}
+use Rattle.reader.proofs.Reading.{rest, has-to-sum}
 use Rattle.reader.proofs.payloads.is_udp.Statement.{statement}
 use Rattle.reader.proofs.payloads.is_udp.Tie as tie
 

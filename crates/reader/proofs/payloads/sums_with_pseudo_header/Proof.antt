@@ -6,9 +6,9 @@ use mathlib.Core.List.{List}
 use native.Mathlib.Omega.{arith}
 use lib.ListN.{length, length-drop}
 use Rattle.sums.specs.Rfc1071.{total, fold}
-use Rattle.reader.specs.Grammar.{headerLength, payload}
+use Rattle.grammar.specs.Grammar.{headerLength, payload}
 use Rattle.reader.proofs.Pseudo.{sums-on, laid-out}
-use Rattle.reader.proofs.Telling.{tells-sums, rest}
+use Rattle.reader.proofs.Reading.{tells-sums, rest}
 use Rattle.reader.proofs.payloads.sums_with_pseudo_header.Statement.{statement}
 use Rattle.reader.proofs.payloads.sums_with_pseudo_header.Tie as tie
 

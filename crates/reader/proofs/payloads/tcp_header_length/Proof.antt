@@ -2,7 +2,7 @@
 use borrow.Author.Needs.{needs}
 use mathlib.Core.Path.{_∙_}
 use native.Mathlib.Omega.{arith}
-use Rattle.reader.proofs.Telling.{byte-behind}
+use Rattle.reader.proofs.Reading.{byte-behind}
 use Rattle.reader.proofs.payloads.tcp_header_length.Statement.{statement}
 use Rattle.reader.proofs.payloads.tcp_header_length.Tie as tie
 

@@ -2,9 +2,9 @@
 use borrow.Author.Needs.{needs}
 use mathlib.Core.Path.{sym, _∙_}
 use native.Mathlib.Omega.{arith}
-use Rattle.reader.proofs.Telling.{tells-eq, one-or-two, at-least-1, at-most-2}
-use Rattle.reader.proofs.dhcp.has_header.Statement.{statement}
-use Rattle.reader.proofs.dhcp.has_header.Tie as tie
+use Rattle.messages.proofs.Telling.{tells-eq, one-or-two, at-least-1, at-most-2}
+use Rattle.messages.proofs.has_header.Statement.{statement}
+use Rattle.messages.proofs.has_header.Tie as tie
 
 returns : tie.Need-returns
 returns c = search needs

@@ -1,16 +1,11 @@
 -- The reader is exact: whatever keeps its promise answers parts exactly when there is a derivation, and then they are that one's, and 8 exactly when there is
 -- none. So two answers to one frame are equal.
 use Prim.Native.Nat.{ℕ}
-use mathlib.Core.Path.{_≡_, refl, ap, sym, subst, _∙_}
+use mathlib.Core.Path.{_≡_, ap, sym, subst, _∙_}
 use mathlib.Core.List.{List}
-use lib.ListN.{getD}
-use Rattle.reader.specs.Grammar.{Layer, Derivation, arp, other, icmp, udp, dhcp, tcp, Derives}
-use Rattle.reader.specs.Report.{Report, parts, refused, partsOf, Reads, takes, refuses, told}
-use Rattle.reader.specs.Report as Report
-use Rattle.reader.specs.declared.parts.Layer.{Layer as Parts·Layer}
-use Rattle.reader.specs.declared.parts.Reading.{Reading}
-use Rattle.reader.specs.declared.parts.Reading.the-variants.{Arp, OtherIpv4, Icmp, Udp, Dhcp, Tcp, Outside}
-use Rattle.reader.proofs.Unique.{unique}
+use Rattle.grammar.specs.Grammar.{Derivation, arp, other, icmp, udp, dhcp, tcp, Derives}
+use Rattle.grammar.specs.Report.{Report, parts, refused, partsOf, Reads, takes, refuses}
+use Rattle.grammar.proofs.Unique.{unique}
 
 -- parts are no refusal
 Taken : Report → Type 0
@@ -52,38 +47,3 @@ underived-refused s answer (refuses same none′) none = same
 pub one-report : (s : List ℕ) (a b : Report) → Reads s a → Reads s b → a ≡ b
 one-report s a b (takes d h same) r = same ∙ sym (parts-reported s b r d h)
 one-report s a b (refuses same none) r = same ∙ sym (underived-refused s b r none)
-
--- the code's answer is known by what it tells
-nowhere : Layer
-nowhere = record { header = record { start = 0; stop = 0 }; payload = record { start = 0; stop = 0 } }
-
-abbrev back : List Layer → ℕ → Parts·Layer
-back layers i =
-    record {
-      header = getD layers i nowhere .header .start;
-      payload = getD layers i nowhere .payload .start;
-      stop = getD layers i nowhere .payload .stop;
-    }
-
-untold : Report → Reading
-untold (parts Report.ARP l type) = Arp (back l 0)
-untold (parts Report.OtherIPv4 l type) = OtherIpv4 (back l 0) (back l 1)
-untold (parts Report.ICMP l type) = Icmp (back l 0) (back l 1) (back l 2)
-untold (parts Report.UDP l type) = Udp (back l 0) (back l 1) (back l 2)
-untold (parts Report.DHCP l type) = Dhcp (back l 0) (back l 1) (back l 2) (back l 3) (getD type 0 0)
-untold (parts Report.TCP l type) = Tcp (back l 0) (back l 1) (back l 2)
-untold (refused number) = Outside
-
-told-back : (r : Reading) → untold (told r) ≡ r
-unfolding untold told
-told-back (Arp e) = refl
-told-back (OtherIpv4 e i) = refl
-told-back (Icmp e i m) = refl
-told-back (Udp e i u) = refl
-told-back (Dhcp e i u m type) = refl
-told-back (Tcp e i g) = refl
-told-back Outside = refl
-
--- two answers that keep the promise are equal
-pub read-answers-once : (s : List ℕ) (r q : Reading) → Reads s (told r) → Reads s (told q) → r ≡ q
-read-answers-once s r q a b = sym (told-back r) ∙ ap untold (one-report s (told r) (told q) a b) ∙ told-back q

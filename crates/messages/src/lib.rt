@@ -1,12 +1,13 @@
-// A DHCP message: RFC 2131, and its list of options, RFC 2132. The list reader calls the item reader,
-// which calls the list reader on what remains: at most 1,232 bytes, so the calls are at most 2,465 deep.
+// A DHCP message, read strictly: RFC 2131, and its list of options, RFC 2132. The list reader calls the
+// item reader, which calls the list reader on what remains: at most 1,232 bytes, so the calls are at most
+// 2,465 deep.
 ghost use mathlib.Core.Path.{_≡_};
 ghost use Prim.Native.Nat.{_+_, _≤_, _<_};
 ghost use lib.ListN.{length, drop};
 ghost use Rattle.fields.specs.Bytes.{u8At};
-ghost use Rattle.reader.specs.Grammar.{DHCPHeader};
-ghost use Rattle.reader.specs.Helpers.{AllZero, Tells};
-ghost use Rattle.reader.specs.Messages.{Listed, MessageRead};
+ghost use Rattle.grammar.specs.Grammar.{DHCPHeader};
+ghost use Rattle.messages.specs.Messages.{AllZero, Listed, MessageRead};
+ghost use Rattle.messages.specs.Tells.{Tells};
 use fields::byte_at;
 use fields::u32be;
 
@@ -44,9 +45,11 @@ const END: u8 = 255;
 
 // The type of the message that starts at `at` and runs to the end of the frame; 0 where it is none.
 pub fn read_message(frame: &[u8], at: usize) -> u8
-    requires { ⌜ at ≤ length (now frame) ⌝ }
     ensures { λ r. ⌜ MessageRead (now (frame .entry)) at r ⌝ }
 {
+    if frame.len() < at {
+        return 0;
+    }
     if !has_header(&frame[at..]) {
         return 0;
     }

@@ -4,8 +4,8 @@ use mathlib.Core.Path.{_≡_}
 use mathlib.Core.List.{List, [], _∷_}
 use lib.ListN.{drop}
 use Rattle.fields.specs.Bytes.{u8At}
-use Rattle.reader.specs.Grammar.{ItemList, option, options53, IsList, DHCP}
-use Rattle.reader.specs.Report.{values}
+use Rattle.grammar.specs.Grammar.{ItemList, option, options53, IsList, DHCP}
+use Rattle.grammar.specs.Report.{values}
 
 -- The type `type` by a list, where an option 53 before the list said `seen`; 0: there was none.
 pub data Gives (frame : List ℕ) (seen : ℕ) (items : ItemList) (type : ℕ) : Type 0 where
@@ -30,3 +30,8 @@ MessageRead frame at (suc n) =
     (items : ItemList)
     × DHCP frame at items
     × (values frame (options53 items) ≡ suc n ∷ [])
+
+-- bytes that are all 0
+unfoldable pub AllZero : List ℕ → Type 0
+AllZero [] = Unit
+AllZero (byte ∷ rest) = (byte ≡ 0) × AllZero rest

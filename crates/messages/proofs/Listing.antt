@@ -12,10 +12,11 @@ use lib.ListN.{length, drop, take, length-drop, drop-of-length-le, take-append-d
 use lib.Seq.{drop-cons, drop-drop, length-take-le}
 use borrow.Author.Tests.{ne-eqb, eqb-false}
 use Rattle.fields.specs.Bytes.{u8At}
-use Rattle.reader.specs.Grammar.{Item, pad, option, ItemList, END, item, IsList, options53}
-use Rattle.reader.specs.Helpers.{AllZero}
-use Rattle.reader.specs.Messages.{Gives, before, within, ListGives, Listed}
-use Rattle.reader.proofs.Items.{Starts, ends, pads, opts, starts, list-nil, all-zeros, zeros-all, no-cons, head-same, tail-same}
+use Rattle.grammar.specs.Grammar.{Item, pad, option, ItemList, END, item, IsList, options53}
+use Rattle.messages.specs.Messages.{AllZero}
+use Rattle.messages.specs.Messages.{Gives, before, within, ListGives, Listed}
+use Rattle.grammar.proofs.Items.{Starts, ends, pads, opts, starts, list-nil, no-cons, head-same, tail-same}
+use Rattle.messages.proofs.AllZero.{all-zeros, zeros-all}
 
 -- an option at `at`, and the rest of the list behind it
 pub record OptionAt (s : List ℕ) (at len : ℕ) (rest : ItemList) : Type 0 where

@@ -1,13 +1,11 @@
 -- How a DHCP list starts: its first byte says which form it has, and with it where the rest goes on. So it is read in one way only.
-use Prim.Native.Nat.{ℕ, zero, suc, _+_, _≤_, _<_}
-use mathlib.Core.Path.{_≡_, refl, ap, sym, subst, _∙_}
+use Prim.Native.Nat.{ℕ, suc, _+_, _≤_}
+use mathlib.Core.Path.{_≡_, ap, sym, subst, _∙_}
 use mathlib.Core.List.{List, [], _∷_, _++_}
 use native.Mathlib.Omega.{arith}
-use lib.ListN.{length, drop, replicate, getD, length-append, drop-of-length-le}
-use native.Mathlib.Numerals.{add-one}
-use Rattle.reader.specs.Helpers.{AllZero}
-use lib.Seq.{drop-at, drop-cons}
-use Rattle.reader.specs.Grammar.{pad, option, ItemList, END, item, IsList}
+use lib.ListN.{length, drop, replicate, getD, length-append}
+use lib.Seq.{drop-at}
+use Rattle.grammar.specs.Grammar.{pad, option, ItemList, END, item, IsList}
 
 pub no-cons : {A : Type 0} (x : A) (l : List A) → _≡_ {A = List A} [] (x ∷ l) → ⊥
 no-cons {A} x l e = subst Empty e tt
@@ -29,34 +27,6 @@ pub data Starts (at x : ℕ) (l : List ℕ) : ItemList → Type 0 where
   opts : (len : ℕ) (m : List ℕ) (rest : ItemList) → 1 ≤ x → x ≤ 254 → l ≡ len ∷ m → len ≤ length m → IsList (at + 2 + len) (drop len m) rest
       → Starts at x l (item (option at x len) rest)
 
--- ALL ZERO, byte by byte
-pub zero-first : (s : List ℕ) (i : ℕ) → i < length s → AllZero (drop i s) → getD s i 0 ≡ 0
-unfolding AllZero
-zero-first s i h z = subst AllZero (drop-cons s i 0 h) z .0
-
-pub zero-rest : (s : List ℕ) (i : ℕ) → i < length s → AllZero (drop i s) → AllZero (drop (i + 1) s)
-unfolding AllZero
-zero-rest s i h z = rw (add-one i) (subst AllZero (drop-cons s i 0 h) z .1)
-
-pub zero-more : (s : List ℕ) (i : ℕ) → i < length s → getD s i 0 ≡ 0 → AllZero (drop (i + 1) s) → AllZero (drop i s)
-unfolding AllZero
-zero-more s i h e z = subst AllZero (sym (drop-cons s i 0 h)) (e, subst (λ (n : ℕ). AllZero (drop n s)) (add-one i) z)
-
-pub zero-none : (s : List ℕ) (i : ℕ) → length s ≤ i → AllZero (drop i s)
-unfolding AllZero
-zero-none s i h = subst AllZero (sym (drop-of-length-le s h)) tt
-
-pub zeros-all : (n : ℕ) → AllZero (replicate n 0)
-unfolding AllZero
-zeros-all zero = tt
-zeros-all (suc n) = (refl, zeros-all n)
-
-pub all-zeros : (s : List ℕ) → AllZero s → s ≡ replicate (length s) 0
-unfolding AllZero
-all-zeros [] z = refl
-all-zeros (x ∷ s) z = rw (z .0) (ap (λ (l : List ℕ). 0 ∷ l) (all-zeros s (z .1)))
-
--- HOW A LIST STARTS
 pub list-nil : (at : ℕ) (items : ItemList) → IsList at [] items → ⊥
 unfolding IsList
 list-nil at (END place zeros) h = no-cons 255 (replicate zeros 0) (h .1)

@@ -4,10 +4,7 @@ use Prim.Native.Nat.{ℕ, _+_}
 use mathlib.Core.Path.{_≡_}
 use mathlib.Core.List.{List, [], _∷_}
 use Rattle.fields.specs.Bytes.{u8At}
-use Rattle.reader.specs.Grammar.{Layer, Item, pad, option, Derivation, arp, other, icmp, udp, dhcp, tcp, options53, Derives}
-use Rattle.reader.specs.declared.parts.Reading.{Reading}
-use Rattle.reader.specs.declared.parts.Reading.the-variants.{Arp, OtherIpv4, Icmp, Udp, Dhcp, Tcp, Outside}
-use Rattle.reader.specs.declared.parts.Layer.{Layer as Parts·Layer}
+use Rattle.grammar.specs.Grammar.{Layer, Item, pad, option, Derivation, arp, other, icmp, udp, dhcp, tcp, options53, Derives}
 
 pub data Kind : Type 0 where
   ARP OtherIPv4 ICMP UDP DHCP TCP : Kind
@@ -38,22 +35,3 @@ partsOf frame (tcp ethernet ip segment) = parts TCP (ethernet ∷ ip ∷ segment
 pub data Reads (frame : List ℕ) (answer : Report) : Type 0 where
   takes : (d : Derivation) → Derives frame d → answer ≡ partsOf frame d → Reads frame answer
   refuses : answer ≡ refused 8 → ((d : Derivation) → Derives frame d → ⊥) → Reads frame answer
-
--- the code's layer
-abbrev pub layerOf : Parts·Layer → Layer
-layerOf l =
-    record {
-      header = record { start = l .header; stop = l .payload };
-      payload = record { start = l .payload; stop = l .stop };
-    }
-
--- what the code's answer says
-unfoldable pub told : Reading → Report
-told (Arp ethernet) = parts ARP (layerOf ethernet ∷ []) []
-told (OtherIpv4 ethernet ip) = parts OtherIPv4 (layerOf ethernet ∷ layerOf ip ∷ []) []
-told (Icmp ethernet ip message) = parts ICMP (layerOf ethernet ∷ layerOf ip ∷ layerOf message ∷ []) []
-told (Udp ethernet ip datagram) = parts UDP (layerOf ethernet ∷ layerOf ip ∷ layerOf datagram ∷ []) []
-told (Dhcp ethernet ip datagram message type) =
-    parts DHCP (layerOf ethernet ∷ layerOf ip ∷ layerOf datagram ∷ layerOf message ∷ []) (type ∷ [])
-told (Tcp ethernet ip segment) = parts TCP (layerOf ethernet ∷ layerOf ip ∷ layerOf segment ∷ []) []
-told Outside = refused 8

@@ -1,20 +1,15 @@
 -- What a comparison tells that ends a test: both ways, by the comparison's two answers.
-use Prim.Native.Nat.{ℕ, _+_, _-_, _*_, _≤_}
-use mathlib.Core.Path.{_≡_, refl, sym, subst, ap, ap₂, _∙_}
+use Prim.Native.Nat.{ℕ, _-_, _≤_}
+use mathlib.Core.Path.{_≡_, refl, subst}
 use mathlib.Core.Bool.{Bool, true, false, not}
 use mathlib.Core.Logic.{_⊎_, inl, inr}
-use mathlib.Core.List.{List, _++_}
-use native.Mathlib.Nat.{zero-add, add-assoc}
+use mathlib.Core.List.{List}
 use native.Mathlib.Omega.{arith}
 use lib.Dec.{eqb}
 use lib.ListN.{length, take, drop}
 use Rattle.frames.proofs.Lists.{from-on}
 use borrow.Author.Tests.{eqb-true, eqb-false, not-true, not-false}
-use lib.Seq.{getD-drop}
-use Rattle.fields.specs.Bytes.{u8At, u16At}
-use Rattle.sums.specs.Rfc1071.{total, fold, SumsRight}
-use Rattle.reader.specs.Helpers.{Tells}
-use Rattle.reader.specs.Grammar.{UDPSums, unsummed, summed, pseudoHeader, payload}
+use Rattle.messages.specs.Tells.{Tells}
 
 pub tells-eq : {A : Type 0} (m n : ℕ) → (m ≡ n → A) → (A → m ≡ n) → Tells (eqb m n) A
 tells-eq {A} m n to from = go (eqb m n) refl
@@ -45,17 +40,6 @@ pub first-of : {A B : Type 0} → A ⊎ B → (B → ⊥) → A
 first-of (inl a) f = a
 first-of (inr b) f = absurd (f b)
 
--- a sum from 0 on, compared with 65,535, tells whether its bytes sum right
-pub tells-sums : {A : Type 0} (r : ℕ) (s : List ℕ) → r ≡ fold (0 + total s) → (SumsRight s → A) → (A → SumsRight s) → Tells (eqb r 65535) A
-unfolding SumsRight
-tells-sums {A} r s e to from =
-    let plain : r ≡ fold (total s) = e ∙ ap fold (zero-add (total s)) in
-    tells-eq r 65535 (λ x. to (sym plain ∙ x)) (λ a. plain ∙ from a)
-
--- a slice from `r` on, as the code takes it, where `r` is known to be `h`
-pub rest : (s : List ℕ) (r h : ℕ) → r ≡ h → take (length s - r) (drop r s) ≡ drop h s
-rest s r h e = ap (λ (n : ℕ). take (length s - n) (drop n s)) e ∙ from-on h s
-
 -- 1 or 2, and neither less nor more
 pub one-or-two : (x : ℕ) → 1 ≤ x → x ≤ 2 → (x ≡ 1) ⊎ (x ≡ 2)
 one-or-two x a b = go (eqb x 1) refl
@@ -71,19 +55,6 @@ at-least-1 x (inr e) = omega arith
 pub at-most-2 : (x : ℕ) → (x ≡ 1) ⊎ (x ≡ 2) → x ≤ 2
 at-most-2 x (inl e) = omega arith
 at-most-2 x (inr e) = omega arith
-
--- a datagram with a checksum that isn't zero has to sum right
-pub has-to-sum : (p : List ℕ) (checksum : ℕ) → UDPSums p checksum → (checksum ≡ 0 → ⊥) → SumsRight (pseudoHeader p ++ payload p)
-has-to-sum p checksum (unsummed e) f = absurd (f e)
-has-to-sum p checksum (summed g right) f = right
-
--- a byte and a number of the part behind `h`, read in the whole
-pub byte-behind : (s : List ℕ) (r h n : ℕ) → r ≡ h → u8At s (r + n) ≡ u8At (drop h s) n
-byte-behind s r h n e = ap (λ (k : ℕ). u8At s (k + n)) e ∙ sym (getD-drop h s n 0)
-
-pub word-behind : (s : List ℕ) (r h n : ℕ) → r ≡ h → u16At s (r + n) ≡ u16At (drop h s) n
-word-behind s r h n e =
-    ap₂ (λ (a b : ℕ). a * 256 + b) (byte-behind s r h n e) (ap (u8At s) (add-assoc r n 1) ∙ byte-behind s r h (n + 1) e)
 
 -- what is told of a slice from `n` on is told of the part
 pub of-rest : (A : List ℕ → Type 0) (n : ℕ) (s : List ℕ) (b : Bool) → Tells b (A (take (length s - n) (drop n s))) → Tells b (A (drop n s))

@@ -9,8 +9,8 @@ use lib.Dec.{eqb}
 use lib.ListN.{length, drop, replicate, length-replicate}
 use borrow.Author.Tests.{eqb-false}
 use Rattle.fields.specs.Bytes.{u16At}
-use Rattle.reader.specs.Grammar.{Layer, pad, option, ItemList, END, item, IsList, Derivation, arp, other, icmp, udp, dhcp, tcp, body, protocol, dataOffset, Ethernet, ARP, IPv4, OtherIPv4, CarriesDHCP, ethernetLayer, ipLayer, payloadLayer, dataAt, messageLayer, Derives}
-use Rattle.reader.proofs.Items.{Starts, ends, pads, opts, starts, list-nil, head-same, tail-same}
+use Rattle.grammar.specs.Grammar.{Layer, pad, option, ItemList, END, item, IsList, Derivation, arp, other, icmp, udp, dhcp, tcp, body, protocol, dataOffset, Ethernet, ARP, IPv4, OtherIPv4, CarriesDHCP, ethernetLayer, ipLayer, payloadLayer, dataAt, messageLayer, Derives}
+use Rattle.grammar.proofs.Items.{Starts, ends, pads, opts, starts, list-nil, head-same, tail-same}
 
 -- two numbers in one place
 clash : (n a b : ℕ) → eqb a b ≡ false → n ≡ a → n ≡ b → ⊥

@@ -5,9 +5,9 @@ use mathlib.Core.List.{List, [], _∷_}
 use native.Mathlib.Nat.{not-suc-le-zero}
 use lib.ListN.{drop}
 use Rattle.fields.specs.Bytes.{u8At}
-use Rattle.reader.specs.Grammar.{DHCPHeader, TypedOnce, options53}
-use Rattle.reader.specs.Report.{values}
-use Rattle.reader.specs.Messages.{Gives, before, within, ListGives, Listed, MessageRead}
+use Rattle.grammar.specs.Grammar.{DHCPHeader, TypedOnce, options53}
+use Rattle.grammar.specs.Report.{values}
+use Rattle.messages.specs.Messages.{Gives, before, within, ListGives, Listed, MessageRead}
 
 pub no-message : (s : List ℕ) (at : ℕ) → (DHCPHeader (drop at s) → ⊥) → MessageRead s at 0
 unfolding MessageRead
