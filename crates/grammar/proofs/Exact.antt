@@ -3,7 +3,7 @@
 use Prim.Native.Nat.{ℕ}
 use mathlib.Core.Path.{_≡_, ap, sym, subst, _∙_}
 use mathlib.Core.List.{List}
-use Rattle.grammar.specs.Grammar.{Derivation, arp, other, icmp, udp, dhcp, tcp, Derives}
+use Rattle.grammar.specs.Grammar.{Derivation, arp, otherIPv4, icmp, udp, dhcp, tcp, Derives}
 use Rattle.grammar.specs.Report.{Report, parts, refused, partsOf, Reads, takes, refuses}
 use Rattle.grammar.proofs.Unique.{unique}
 
@@ -15,7 +15,7 @@ Taken (refused number) = ⊥
 taken : (s : List ℕ) (d : Derivation) → Taken (partsOf s d)
 unfolding Taken partsOf
 taken s (arp e) = tt
-taken s (other e i) = tt
+taken s (otherIPv4 e i) = tt
 taken s (icmp e i m) = tt
 taken s (udp e i u) = tt
 taken s (dhcp e i u m items) = tt

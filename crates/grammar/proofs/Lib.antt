@@ -1,3 +1,4 @@
 pub mod Items
 pub mod Unique
 pub mod Exact
+pub mod Places

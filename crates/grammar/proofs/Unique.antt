@@ -9,11 +9,11 @@ use lib.Dec.{eqb}
 use lib.ListN.{length, drop, replicate, length-replicate}
 use borrow.Author.Tests.{eqb-false}
 use Rattle.fields.specs.Bytes.{u16At}
-use Rattle.grammar.specs.Grammar.{Layer, pad, option, ItemList, END, item, IsList, Derivation, arp, other, icmp, udp, dhcp, tcp, body, protocol, dataOffset, Ethernet, ARP, IPv4, OtherIPv4, CarriesDHCP, ethernetLayer, ipLayer, payloadLayer, dataAt, messageLayer, Derives}
+use Rattle.grammar.specs.Grammar.{Layer, pad, option, ItemList, END, item, IsList, Derivation, arp, otherIPv4, icmp, udp, dhcp, tcp, body, protocol, dataOffset, Ethernet, ARP, IPv4, OtherIPv4, CarriesDHCP, ethernetLayer, ipLayer, payloadLayer, dataAt, messageLayer, Derives}
 use Rattle.grammar.proofs.Items.{Starts, ends, pads, opts, starts, list-nil, head-same, tail-same}
 
 -- two numbers in one place
-clash : (n a b : ℕ) → eqb a b ≡ false → n ≡ a → n ≡ b → ⊥
+pub clash : (n a b : ℕ) → eqb a b ≡ false → n ≡ a → n ≡ b → ⊥
 clash n a b f x y = eqb-false a b f (sym x ∙ y)
 
 -- THE LIST
@@ -73,7 +73,7 @@ list-unique (item (option place code len) rest) at (x ∷ l) b h k =
 pub arp-or-ipv4 : (s : List ℕ) (d : Derivation) → Derives s d → (Ethernet s 0x0806 × ARP (body s)) ⊎ (Ethernet s 0x0800 × IPv4 (body s))
 unfolding Derives
 arp-or-ipv4 s (arp e) h = inl (h .0, h .1)
-arp-or-ipv4 s (other e i) h = inr (h .0, h .1)
+arp-or-ipv4 s (otherIPv4 e i) h = inr (h .0, h .1)
 arp-or-ipv4 s (icmp e i m) h = inr (h .0, h .1)
 arp-or-ipv4 s (udp e i u) h = inr (h .0, h .1)
 arp-or-ipv4 s (dhcp e i u m items) h = inr (h .0, h .1)
@@ -86,7 +86,7 @@ module _ (s : List ℕ) where
   -- with its layers each derivation is the only one of its kind, but for a DHCP list
   canonical : Derivation → Derivation
   canonical (arp e) = arp (ethernetLayer s)
-  canonical (other e i) = other (ethernetLayer s) (ipLayer s)
+  canonical (otherIPv4 e i) = otherIPv4 (ethernetLayer s) (ipLayer s)
   canonical (icmp e i m) = icmp (ethernetLayer s) (ipLayer s) (payloadLayer 8 s)
   canonical (udp e i u) = udp (ethernetLayer s) (ipLayer s) (payloadLayer 8 s)
   canonical (dhcp e i u m items) = dhcp (ethernetLayer s) (ipLayer s) (payloadLayer 8 s) (messageLayer s) items
@@ -95,7 +95,7 @@ module _ (s : List ℕ) where
   is-canonical : (d : Derivation) → Derives s d → d ≡ canonical d
   unfolding Derives canonical
   is-canonical (arp e) h = ap arp (h .2)
-  is-canonical (other e i) h = ap₂ other (h .3) (h .4)
+  is-canonical (otherIPv4 e i) h = ap₂ otherIPv4 (h .3) (h .4)
   is-canonical (icmp e i m) h = ap₂ (λ (a b : Layer). icmp a b m) (h .3) (h .4) ∙ ap (icmp (ethernetLayer s) (ipLayer s)) (h .5)
   is-canonical (udp e i u) h = ap₂ (λ (a b : Layer). udp a b u) (h .3) (h .4) ∙ ap (udp (ethernetLayer s) (ipLayer s)) (h .5)
   is-canonical (dhcp e i u m items) h =
@@ -106,7 +106,7 @@ module _ (s : List ℕ) where
   arp-only : (d : Derivation) → Derives s d → u16At s 12 ≡ 0x0806 → d ≡ arp (ethernetLayer s)
   unfolding Derives canonical
   arp-only (arp e) h t = is-canonical (arp e) h
-  arp-only (other e i) h t = absurd (clash (u16At s 12) 0x0800 0x0806 refl (h .0 .typed) t)
+  arp-only (otherIPv4 e i) h t = absurd (clash (u16At s 12) 0x0800 0x0806 refl (h .0 .typed) t)
   arp-only (icmp e i m) h t = absurd (clash (u16At s 12) 0x0800 0x0806 refl (h .0 .typed) t)
   arp-only (udp e i u) h t = absurd (clash (u16At s 12) 0x0800 0x0806 refl (h .0 .typed) t)
   arp-only (dhcp e i u m items) h t = absurd (clash (u16At s 12) 0x0800 0x0806 refl (h .0 .typed) t)
@@ -115,7 +115,7 @@ module _ (s : List ℕ) where
   pub icmp-only : (d : Derivation) → Derives s d → u16At s 12 ≡ 0x0800 → protocol p ≡ 1 → d ≡ icmp (ethernetLayer s) (ipLayer s) (payloadLayer 8 s)
   unfolding Derives canonical
   icmp-only (arp e) h t c = absurd (clash (u16At s 12) 0x0806 0x0800 refl (h .0 .typed) t)
-  icmp-only (other e i) h t c = absurd (h .2 .no-icmp c)
+  icmp-only (otherIPv4 e i) h t c = absurd (h .2 .no-icmp c)
   icmp-only (icmp e i m) h t c = is-canonical (icmp e i m) h
   icmp-only (udp e i u) h t c = absurd (clash (protocol p) 17 1 refl (h .2 .carried) c)
   icmp-only (dhcp e i u m items) h t c = absurd (clash (protocol p) 17 1 refl (h .2 .carried) c)
@@ -124,16 +124,16 @@ module _ (s : List ℕ) where
   pub tcp-only : (d : Derivation) → Derives s d → u16At s 12 ≡ 0x0800 → protocol p ≡ 6 → d ≡ tcp (ethernetLayer s) (ipLayer s) (payloadLayer (dataOffset p * 4) s)
   unfolding Derives canonical
   tcp-only (arp e) h t c = absurd (clash (u16At s 12) 0x0806 0x0800 refl (h .0 .typed) t)
-  tcp-only (other e i) h t c = absurd (h .2 .no-tcp c)
+  tcp-only (otherIPv4 e i) h t c = absurd (h .2 .no-tcp c)
   tcp-only (icmp e i m) h t c = absurd (clash (protocol p) 1 6 refl (h .2 .carried) c)
   tcp-only (udp e i u) h t c = absurd (clash (protocol p) 17 6 refl (h .2 .carried) c)
   tcp-only (dhcp e i u m items) h t c = absurd (clash (protocol p) 17 6 refl (h .2 .carried) c)
   tcp-only (tcp e i g) h t c = is-canonical (tcp e i g) h
 
-  other-only : (d : Derivation) → Derives s d → u16At s 12 ≡ 0x0800 → OtherIPv4 p → d ≡ other (ethernetLayer s) (ipLayer s)
+  other-only : (d : Derivation) → Derives s d → u16At s 12 ≡ 0x0800 → OtherIPv4 p → d ≡ otherIPv4 (ethernetLayer s) (ipLayer s)
   unfolding Derives canonical
   other-only (arp e) h t c = absurd (clash (u16At s 12) 0x0806 0x0800 refl (h .0 .typed) t)
-  other-only (other e i) h t c = is-canonical (other e i) h
+  other-only (otherIPv4 e i) h t c = is-canonical (otherIPv4 e i) h
   other-only (icmp e i m) h t c = absurd (c .no-icmp (h .2 .carried))
   other-only (udp e i u) h t c = absurd (c .no-udp (h .2 .carried))
   other-only (dhcp e i u m items) h t c = absurd (c .no-udp (h .2 .carried))
@@ -143,7 +143,7 @@ module _ (s : List ℕ) where
       → d ≡ udp (ethernetLayer s) (ipLayer s) (payloadLayer 8 s)
   unfolding Derives canonical
   udp-only (arp e) h t c f = absurd (clash (u16At s 12) 0x0806 0x0800 refl (h .0 .typed) t)
-  udp-only (other e i) h t c f = absurd (h .2 .no-udp c)
+  udp-only (otherIPv4 e i) h t c f = absurd (h .2 .no-udp c)
   udp-only (icmp e i m) h t c f = absurd (clash (protocol p) 1 17 refl (h .2 .carried) c)
   udp-only (udp e i u) h t c f = is-canonical (udp e i u) h
   udp-only (dhcp e i u m items) h t c f = absurd (f (h .6))
@@ -153,7 +153,7 @@ module _ (s : List ℕ) where
       → (items : ItemList) × (d ≡ dhcp (ethernetLayer s) (ipLayer s) (payloadLayer 8 s) (messageLayer s) items)
   unfolding Derives canonical
   dhcp-only (arp e) h t c f = absurd (clash (u16At s 12) 0x0806 0x0800 refl (h .0 .typed) t)
-  dhcp-only (other e i) h t c f = absurd (h .2 .no-udp c)
+  dhcp-only (otherIPv4 e i) h t c f = absurd (h .2 .no-udp c)
   dhcp-only (icmp e i m) h t c f = absurd (clash (protocol p) 1 17 refl (h .2 .carried) c)
   dhcp-only (udp e i u) h t c f = absurd (h .6 f)
   dhcp-only (dhcp e i u m items) h t c f = (items, is-canonical (dhcp e i u m items) h)
@@ -163,7 +163,7 @@ module _ (s : List ℕ) where
   pub unique : (d e : Derivation) → Derives s d → Derives s e → d ≡ e
   unfolding Derives canonical
   unique (arp a) e h k = is-canonical (arp a) h ∙ sym (arp-only e k (h .0 .typed))
-  unique (other a i) e h k = is-canonical (other a i) h ∙ sym (other-only e k (h .0 .typed) (h .2))
+  unique (otherIPv4 a i) e h k = is-canonical (otherIPv4 a i) h ∙ sym (other-only e k (h .0 .typed) (h .2))
   unique (icmp a i m) e h k = is-canonical (icmp a i m) h ∙ sym (icmp-only e k (h .0 .typed) (h .2 .carried))
   unique (udp a i u) e h k = is-canonical (udp a i u) h ∙ sym (udp-only e k (h .0 .typed) (h .2 .carried) (h .6))
   unique (dhcp a i u m items) e h k =

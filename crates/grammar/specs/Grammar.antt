@@ -1,5 +1,6 @@
--- The frame grammar: document 01, "The frame grammar", each sentence quoted where it is said. A byte string is a list of numbers below 256; `u8At s n` is its byte n (0 past its
--- end), `u16At` and `u32At` are big-endian, and `SumsRight` is RFC 1071's. A place is counted from the frame's first byte. (`abbrev` and `unfoldable` are for the prover alone.)
+-- The frame grammar: document 01, "The frame grammar", each sentence quoted where it is said, but for "Sums right" (`SumsRight`, in Rfc1071) and what is reported (Report). A byte string is a list of numbers;
+-- that each is below 256 is the frame's `u8`, and nothing here asks it. `u8At s n` is the byte n of `s`, 0 past its end; `u16At` and `u32At` are big-endian. A place is counted from the frame's first byte.
+-- (`abbrev` and `unfoldable` are for the prover alone.)
 use Prim.Native.Nat.{ℕ, _+_, _*_, _/_, _%_, _≤_}
 use mathlib.Core.Path.{_≡_}
 use mathlib.Core.Bool.{true, false}
@@ -36,11 +37,11 @@ pub data ItemList : Type 0 where
 -- each kind with its layers, the outermost first; an ARP packet has no header of its own
 pub data Derivation : Type 0 where
   arp : (ethernet : Layer) → Derivation
-  other : (ethernet ip : Layer) → Derivation
   icmp : (ethernet ip message : Layer) → Derivation
   udp : (ethernet ip datagram : Layer) → Derivation
   dhcp : (ethernet ip datagram message : Layer) (items : ItemList) → Derivation
   tcp : (ethernet ip segment : Layer) → Derivation
+  otherIPv4 : (ethernet ip : Layer) → Derivation
 
 -- FRAMES
 
@@ -84,9 +85,11 @@ pub record IPv4 (packet : List ℕ) : Type 0 where
   pub unfragmented : Unfragmented packet
   pub sums : SumsRight (take (headerLength packet) packet)
 
+-- what the payload is
 abbrev pub protocol : (packet : List ℕ) → ℕ
 protocol packet = u8At packet 9
 
+-- all that follows the header
 abbrev pub payload : (packet : List ℕ) → List ℕ
 payload packet = drop (headerLength packet) packet
 
@@ -194,17 +197,19 @@ pub record DHCP (frame : List ℕ) (at : ℕ) (items : ItemList) : Type 0 where
 
 -- WHERE THE PARTS LIE
 
+-- a header from `start` up to `mid`, and its payload from there up to `stop`
+abbrev pub laid : (start mid stop : ℕ) → Layer
+laid start mid stop = record { header = record { start = start; stop = mid }; payload = record { start = mid; stop = stop } }
+
 -- the bytes `s`, which start at the place `at`: a header of `n` bytes, and the rest as its payload
 abbrev pub layer : (at n : ℕ) (s : List ℕ) → Layer
-layer at n s =
-    record {
-      header = record { start = at; stop = at + n };
-      payload = record { start = at + n; stop = at + length s };
-    }
+layer at n s = laid at (at + n) (at + length s)
 
+-- the frame: 14 bytes of header
 abbrev pub ethernetLayer : (frame : List ℕ) → Layer
 ethernetLayer frame = layer 0 14 frame
 
+-- its body: the IPv4 header, as long as it says
 abbrev pub ipLayer : (frame : List ℕ) → Layer
 ipLayer frame = layer 14 (headerLength (body frame)) (body frame)
 
@@ -216,7 +221,7 @@ payloadAt frame = 14 + headerLength (body frame)
 abbrev pub payloadLayer : (n : ℕ) (frame : List ℕ) → Layer
 payloadLayer n frame = layer (payloadAt frame) n (payload (body frame))
 
--- a datagram's data
+-- where a datagram's data starts
 abbrev pub dataAt : (frame : List ℕ) → ℕ
 dataAt frame = payloadAt frame + 8
 
@@ -231,12 +236,6 @@ Derives frame (arp ethernet) =
     Ethernet frame 0x0806
     × ARP (body frame)
     × (ethernet ≡ ethernetLayer frame)
-Derives frame (other ethernet ip) =
-    Ethernet frame 0x0800
-    × IPv4 (body frame)
-    × OtherIPv4 (body frame)
-    × (ethernet ≡ ethernetLayer frame)
-    × (ip ≡ ipLayer frame)
 Derives frame (icmp ethernet ip message) =
     Ethernet frame 0x0800
     × IPv4 (body frame)
@@ -269,3 +268,9 @@ Derives frame (tcp ethernet ip segment) =
     × (ethernet ≡ ethernetLayer frame)
     × (ip ≡ ipLayer frame)
     × (segment ≡ payloadLayer (dataOffset (body frame) * 4) frame)
+Derives frame (otherIPv4 ethernet ip) =
+    Ethernet frame 0x0800
+    × IPv4 (body frame)
+    × OtherIPv4 (body frame)
+    × (ethernet ≡ ethernetLayer frame)
+    × (ip ≡ ipLayer frame)

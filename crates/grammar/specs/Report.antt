@@ -4,10 +4,10 @@ use Prim.Native.Nat.{ℕ, _+_}
 use mathlib.Core.Path.{_≡_}
 use mathlib.Core.List.{List, [], _∷_}
 use Rattle.fields.specs.Bytes.{u8At}
-use Rattle.grammar.specs.Grammar.{Layer, Item, pad, option, Derivation, arp, other, icmp, udp, dhcp, tcp, options53, Derives}
+use Rattle.grammar.specs.Grammar.{Layer, Item, pad, option, Derivation, arp, icmp, udp, dhcp, tcp, otherIPv4, options53, Derives}
 
 pub data Kind : Type 0 where
-  ARP OtherIPv4 ICMP UDP DHCP TCP : Kind
+  arpKind icmpKind udpKind dhcpKind tcpKind otherIPv4Kind : Kind
 
 pub data Report : Type 0 where
   -- the layers, the outermost first; the message type of DHCP alone
@@ -23,13 +23,13 @@ values frame (option place code len ∷ rest) = u8At frame (place + 2) ∷ value
 
 -- the parts of a derivation
 unfoldable pub partsOf : (frame : List ℕ) → Derivation → Report
-partsOf frame (arp ethernet) = parts ARP (ethernet ∷ []) []
-partsOf frame (other ethernet ip) = parts OtherIPv4 (ethernet ∷ ip ∷ []) []
-partsOf frame (icmp ethernet ip message) = parts ICMP (ethernet ∷ ip ∷ message ∷ []) []
-partsOf frame (udp ethernet ip datagram) = parts UDP (ethernet ∷ ip ∷ datagram ∷ []) []
+partsOf frame (arp ethernet) = parts arpKind (ethernet ∷ []) []
+partsOf frame (icmp ethernet ip message) = parts icmpKind (ethernet ∷ ip ∷ message ∷ []) []
+partsOf frame (udp ethernet ip datagram) = parts udpKind (ethernet ∷ ip ∷ datagram ∷ []) []
 partsOf frame (dhcp ethernet ip datagram message items) =
-    parts DHCP (ethernet ∷ ip ∷ datagram ∷ message ∷ []) (values frame (options53 items))
-partsOf frame (tcp ethernet ip segment) = parts TCP (ethernet ∷ ip ∷ segment ∷ []) []
+    parts dhcpKind (ethernet ∷ ip ∷ datagram ∷ message ∷ []) (values frame (options53 items))
+partsOf frame (tcp ethernet ip segment) = parts tcpKind (ethernet ∷ ip ∷ segment ∷ []) []
+partsOf frame (otherIPv4 ethernet ip) = parts otherIPv4Kind (ethernet ∷ ip ∷ []) []
 
 -- The promise of the reader: the parts of a derivation, or 8 where the frame has none.
 pub data Reads (frame : List ℕ) (answer : Report) : Type 0 where

@@ -19,7 +19,8 @@ use Rattle.tcp.proofs.ReadBack.{SegmentOf, segment-reads-back}
 use Rattle.tcp.proofs.SumsRight.{segment-sums-right}
 use Rattle.tcp.proofs.TcpLaws.{length-segment, syn-cases}
 use Rattle.laws.specs.Derivations.{arpDerivation, otherDerivation, icmpDerivation, udpDerivation, tcpDerivation}
-use Rattle.laws.proofs.DerivedIp.{placed, Packet, payload-placed}
+use Rattle.grammar.proofs.Places.{placed}
+use Rattle.laws.proofs.DerivedIp.{Packet, payload-placed}
 
 -- an ARP reply
 pub arp-derived : (net : Network) (request : List ℕ) → length (net .gateway) ≡ 4 → (n : ℕ) → n ≡ length (arpReply net request) → Derives (arpReply net request) (arpDerivation n)

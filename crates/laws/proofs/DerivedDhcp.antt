@@ -17,7 +17,8 @@ use Rattle.grammar.specs.Grammar.{body, ItemList, END, item, option, IsList, op
 use Rattle.grammar.specs.Report.{partsOf}
 use Rattle.rules.specs.declared.decision.Decision.the-variants.{DhcpReply}
 use Rattle.laws.specs.Derivations.{replyItems, DerivedAs}
-use Rattle.laws.proofs.DerivedIp.{placed, Packet, payload-placed, payload-byte}
+use Rattle.grammar.proofs.Places.{placed}
+use Rattle.laws.proofs.DerivedIp.{Packet, payload-placed, payload-byte}
 use Rattle.laws.proofs.Derived.{datagram-derived}
 
 -- an option in front of a list

@@ -13,13 +13,9 @@ use Rattle.frames.proofs.Lengths.{drop-14, drop-34, length-ipFrame}
 use Rattle.frames.proofs.Lists.{all-bytes}
 use Rattle.frames.proofs.ReadBack.{ethernet-reads-back, frame-reads-back}
 use Rattle.frames.proofs.SumsRight.{frame-header-sums-right}
-use Rattle.grammar.specs.Grammar.{Ethernet, body, IPv4, headerLength, protocol, payload, pseudoHeader, layer, ethernetLayer, ipLayer, payloadAt, payloadLayer}
+use Rattle.grammar.specs.Grammar.{Ethernet, body, IPv4, headerLength, protocol, payload, pseudoHeader, laid, ethernetLayer, ipLayer, payloadAt, payloadLayer}
+use Rattle.grammar.proofs.Places.{placed}
 use Rattle.sums.specs.Rfc1071.{SumsRight}
-use Rattle.laws.specs.Derivations.{laid}
-
--- a layer by its places
-pub placed : (at len : ℕ) (s : List ℕ) (start mid stop : ℕ) → start ≡ at → mid ≡ at + len → stop ≡ at + length s → laid start mid stop ≡ layer at len s
-placed at len s start mid stop e f g = λ i. laid (e i) (f i) (g i)
 
 -- a frame of `n` bytes down to its IPv4 payload
 pub record Packet (frame : List ℕ) (n proto : ℕ) (source target carried : List ℕ) : Type 0 where

@@ -5,14 +5,13 @@ use mathlib.Core.Logic.{inl, inr}
 use mathlib.Core.List.{List, [], _∷_, _++_}
 use native.Mathlib.Omega.{arith}
 use lib.ListN.{take}
-use Rattle.grammar.specs.Grammar.{Derivation, Derives}
-use Rattle.grammar.specs.Report.{parts, refused, partsOf, Reads}
+use Rattle.grammar.specs.Grammar.{Derivation, laid, Derives}
+use Rattle.grammar.specs.Report.{parts, refused, partsOf, Reads, icmpKind}
 use Rattle.reader.specs.Told.{told}
-use Rattle.grammar.specs.Report as Report
 use Rattle.reader.specs.declared.parts.Reading.{Reading}
 use Rattle.grammar.proofs.Unique.{arp-or-ipv4}
 use Rattle.sums.specs.Rfc1071.{words, sum, total, fold, SumsRight}
-use Rattle.laws.specs.Derivations.{laid, arpDerivation, icmpDerivation}
+use Rattle.laws.specs.Derivations.{arpDerivation, icmpDerivation}
 use Rattle.laws.specs.Marked.{arpRequest, ping, pong}
 use Rattle.laws.proofs.Demand3.{refuses-exactly, reports-its-parts}
 
@@ -33,7 +32,7 @@ unfolding SumsRight total words sum fold
 ping-outside d x = elim (arp-or-ipv4 ping d x) [ inl a ↦ omega arith | inr i ↦ omega arith ]
 
 -- so the reader neither takes all nor refuses all: whatever keeps its promise takes the one, with these parts, and refuses the other
-pub pong-read : (r : Reading) → Reads pong (told r) → told r ≡ parts Report.ICMP (laid 0 14 42 ∷ laid 14 34 42 ∷ laid 34 42 42 ∷ []) []
+pub pong-read : (r : Reading) → Reads pong (told r) → told r ≡ parts icmpKind (laid 0 14 42 ∷ laid 14 34 42 ∷ laid 34 42 42 ∷ []) []
 unfolding partsOf
 pong-read r kept = reports-its-parts pong r kept (icmpDerivation 42) pong-derived
 

@@ -2,21 +2,17 @@
 use Prim.Native.Nat.{ℕ, _+_}
 use mathlib.Core.Path.{_≡_}
 use mathlib.Core.List.{List, [], _∷_}
-use Rattle.grammar.specs.Grammar.{Layer, ItemList, END, item, option, Derivation, arp, other, icmp, udp, dhcp, tcp, Derives}
-use Rattle.grammar.specs.Report.{DHCP, parts, partsOf}
+use Rattle.grammar.specs.Grammar.{laid, ItemList, END, item, option, Derivation, arp, otherIPv4, icmp, udp, dhcp, tcp, Derives}
+use Rattle.grammar.specs.Report.{parts, partsOf, dhcpKind}
 use Rattle.rules.specs.declared.decision.Decision.{Decision}
 use Rattle.rules.specs.declared.decision.Decision.the-variants.{Drop, DropNoting, ArpReply, EchoReply, DhcpReply, Dns, Relay, Tcp, TooLong, CutType}
-
--- a header from `start` up to `mid`, and its payload from there up to `stop`
-abbrev pub laid : (start mid stop : ℕ) → Layer
-laid start mid stop = record { header = record { start = start; stop = mid }; payload = record { start = mid; stop = stop } }
 
 -- 14 bytes of Ethernet, and to each kind what lies behind them: 20 of IPv4; 8 of ICMP or UDP; 20 of TCP and its options
 abbrev pub arpDerivation : (n : ℕ) → Derivation
 arpDerivation n = arp (laid 0 14 n)
 
 abbrev pub otherDerivation : (n : ℕ) → Derivation
-otherDerivation n = other (laid 0 14 n) (laid 14 34 n)
+otherDerivation n = otherIPv4 (laid 0 14 n) (laid 14 34 n)
 
 abbrev pub icmpDerivation : (n : ℕ) → Derivation
 icmpDerivation n = icmp (laid 0 14 n) (laid 14 34 n) (laid 34 42 n)
@@ -49,7 +45,7 @@ DerivedAs n reply ArpReply = Derives reply (arpDerivation n)
 DerivedAs n reply (EchoReply start) = Derives reply (icmpDerivation n)
 DerivedAs n reply (DhcpReply xid type) =
     Derives reply (dhcpDerivation n)
-    × (partsOf reply (dhcpDerivation n) ≡ parts DHCP (laid 0 14 n ∷ laid 14 34 n ∷ laid 34 42 n ∷ laid 42 282 n ∷ []) (type ∷ []))
+    × (partsOf reply (dhcpDerivation n) ≡ parts dhcpKind (laid 0 14 n ∷ laid 14 34 n ∷ laid 34 42 n ∷ laid 42 282 n ∷ []) (type ∷ []))
 DerivedAs n reply Drop = ⊥
 DerivedAs n reply (DropNoting xid) = ⊥
 DerivedAs n reply (Dns start len) = ⊥

@@ -6,35 +6,30 @@ use mathlib.Core.Logic.{_⊎_, inl, inr}
 use mathlib.Core.List.{List, [], _∷_}
 use native.Mathlib.Nat.{zero-add}
 use native.Mathlib.Omega.{arith}
-use borrow.Author.Tests.{eqb-false}
 use lib.ListN.{length, drop, length-drop}
 use Rattle.fields.specs.Bytes.{u16At}
-use Rattle.grammar.specs.Grammar.{Layer, Derivation, arp, other, icmp, udp, dhcp, tcp, body, headerLength, payload, protocol, dataOffset, Ethernet, ARP, IPv4, OtherIPv4, ICMP, UDP, TCP, CarriesDHCP, layer, ethernetLayer, ipLayer, payloadAt, payloadLayer, dataAt, messageLayer, Derives}
-use Rattle.reader.specs.Helpers.{Headed}
+use Rattle.grammar.specs.Grammar.{Layer, Derivation, arp, otherIPv4, icmp, udp, dhcp, tcp, body, headerLength, payload, protocol, dataOffset, Ethernet, ARP, IPv4, OtherIPv4, ICMP, UDP, TCP, CarriesDHCP, ethernetLayer, ipLayer, payloadAt, payloadLayer, dataAt, messageLayer, Derives}
+use Rattle.reader.specs.Helpers.{Headed, Framed, Opened}
 use Rattle.messages.specs.Messages.{MessageRead}
-use Rattle.grammar.specs.Report.{parts, partsOf, Reads, takes, refuses}
+use Rattle.grammar.specs.Report.{parts, partsOf, Reads, takes, refuses, arpKind, icmpKind, udpKind, dhcpKind, tcpKind, otherIPv4Kind}
 use Rattle.reader.specs.Told.{layerOf, told}
-use Rattle.grammar.specs.Report as Report
 use Rattle.reader.specs.declared.parts.Layer.{Layer as Parts·Layer}
 use Rattle.reader.specs.declared.parts.Reading.the-variants.{Arp, OtherIpv4, Icmp, Udp, Dhcp, Tcp, Outside}
 use Rattle.messages.proofs.Telling.{first-of, second-of}
-use Rattle.grammar.proofs.Unique.{arp-or-ipv4, icmp-only, dhcp-only, tcp-only}
+use Rattle.grammar.proofs.Places.{placed}
+use Rattle.grammar.proofs.Unique.{clash, arp-or-ipv4, icmp-only, dhcp-only, tcp-only}
 
 -- a layer as the code has it
-abbrev pub from : (header payload stop : ℕ) → Parts·Layer
-from header payload stop = record { header = header; payload = payload; stop = stop }
-
--- it is the grammar's, where its three places are
-lies : (h p q at n : ℕ) (b : List ℕ) → h ≡ at → p ≡ at + n → q ≡ at + length b → layerOf (from h p q) ≡ layer at n b
-lies h p q at n b e f g =
-    ap₂ (λ (x y : ℕ). layerOf (from x y q)) e f ∙ ap (λ (z : ℕ). layerOf (from at (at + n) z)) g
+abbrev at : (header payload stop : ℕ) → Parts·Layer
+at header payload stop = record { header = header; payload = payload; stop = stop }
 
 module _ (s : List ℕ) where
   abbrev p : List ℕ
   p = body s
 
-  ethernet-lies : layerOf (from 0 14 (length s)) ≡ ethernetLayer s
-  ethernet-lies = lies 0 14 (length s) 0 14 s refl refl (sym (zero-add (length s)))
+  -- the frame's own layer
+  pub ethernet-placed : (l : Parts·Layer) → l ≡ at 0 14 (length s) → layerOf l ≡ ethernetLayer s
+  ethernet-placed l e = ap layerOf e ∙ placed 0 14 s 0 14 (length s) refl refl (sym (zero-add (length s)))
 
   -- no derivation at all
   refusing : ((d : Derivation) → Derives s d → ⊥) → Reads s (told Outside)
@@ -49,110 +44,111 @@ module _ (s : List ℕ) where
   short-frame h = refusing (λ d g. let w = whole (arp-or-ipv4 s d g) in omega (arith, w))
 
   pub no-arp : u16At s 12 ≡ 0x0806 → (ARP p → ⊥) → Reads s (told Outside)
-  no-arp t f = refusing (λ d g. f (first-of (arp-or-ipv4 s d g) (λ i. eqb-false 0x0800 0x0806 refl (sym (i .0 .typed) ∙ t)) .1))
+  no-arp t f = refusing (λ d g. f (first-of (arp-or-ipv4 s d g) (λ i. clash (u16At s 12) 0x0800 0x0806 refl (i .0 .typed) t) .1))
 
   pub no-ipv4 : (u16At s 12 ≡ 0x0806 → ⊥) → (u16At s 12 ≡ 0x0800 → IPv4 p → ⊥) → Reads s (told Outside)
   no-ipv4 a f = refusing (λ d g. let i = second-of (arp-or-ipv4 s d g) (λ x. a (x .0 .typed)) in f (i .0 .typed) (i .1))
 
-  pub arp-taken : 14 ≤ length s → u16At s 12 ≡ 0x0806 → ARP p → Reads s (told (Arp (from 0 14 (length s))))
+  pub arp-taken : Ethernet s 0x0806 → ARP p → (l : Parts·Layer) → l ≡ at 0 14 (length s) → Reads s (told (Arp l))
   unfolding told Derives partsOf
-  arp-taken w t a =
-      takes (arp (ethernetLayer s)) (record { whole = w; typed = t }, a, refl)
-      (ap (λ (l : Layer). parts Report.ARP (l ∷ []) []) ethernet-lies)
+  arp-taken w a l e = takes (arp (ethernetLayer s)) (w, a, refl) (ap (λ (k : Layer). parts arpKind (k ∷ []) []) (ethernet-placed l e))
 
   -- behind a right IPv4 header
-  module _ (w : Ethernet s 0x0800) (i : IPv4 p) where
+  module _ (f : Framed s) where
     pub headed : Headed p
     headed =
         record {
-          least = i .least-header;
-          inside = subst (λ (n : ℕ). headerLength p ≤ n) (i .total) (i .inside);
-          total = i .total;
+          least = f .ip .least-header;
+          inside = subst (λ (n : ℕ). headerLength p ≤ n) (f .ip .total) (f .ip .inside);
+          total = f .ip .total;
         }
 
     body-length : length s ≡ 14 + length p
-    body-length = let long = w .whole in omega (arith, long, length-drop 14 s)
+    body-length = let long = f .ethernet .whole in omega (arith, long, length-drop 14 s)
 
     -- where a payload stops
     stop-is : length s ≡ payloadAt s + length (payload p)
     stop-is = omega (arith, body-length, headed .inside, length-drop (headerLength p) p)
 
-    data-inside : UDP p → dataAt s ≤ length s
-    data-inside u = omega (arith, stop-is, u .size)
+    pub opened : (start : ℕ) (ethernet ip : Parts·Layer) → start ≡ payloadAt s → ethernet ≡ at 0 14 (length s) → ip ≡ at 14 start (length s) → Opened s start ethernet ip
+    opened start ethernet ip e l m =
+        record {
+          starts = e;
+          ethernet-is = ethernet-placed ethernet l;
+          ip-is = ap layerOf m ∙ placed 14 (headerLength p) p 14 start (length s) refl e body-length;
+        }
 
     pub no-icmp : protocol p ≡ 1 → (ICMP p → ⊥) → Reads s (told Outside)
     unfolding Derives
-    no-icmp c f = refusing (λ d h. f (subst (Derives s) (icmp-only s d h (w .typed) c) h .2))
+    no-icmp c g = refusing (λ d h. g (subst (Derives s) (icmp-only s d h (f .ethernet .typed) c) h .2))
 
     pub no-tcp : protocol p ≡ 6 → (TCP p → ⊥) → Reads s (told Outside)
     unfolding Derives
-    no-tcp c f = refusing (λ d h. f (subst (Derives s) (tcp-only s d h (w .typed) c) h .2))
+    no-tcp c g = refusing (λ d h. g (subst (Derives s) (tcp-only s d h (f .ethernet .typed) c) h .2))
 
     -- a derivation with protocol 17 has a right datagram, with DHCP in it or not
     datagram-right : protocol p ≡ 17 → (d : Derivation) → Derives s d → UDP p
     unfolding Derives
-    datagram-right c (arp e) h = absurd (eqb-false 0x0806 0x0800 refl (sym (h .0 .typed) ∙ w .typed))
-    datagram-right c (other e i) h = absurd (h .2 .no-udp c)
-    datagram-right c (icmp e i m) h = absurd (eqb-false 1 17 refl (sym (h .2 .carried) ∙ c))
+    datagram-right c (arp e) h = absurd (clash (u16At s 12) 0x0806 0x0800 refl (h .0 .typed) (f .ethernet .typed))
+    datagram-right c (icmp e i m) h = absurd (clash (protocol p) 1 17 refl (h .2 .carried) c)
     datagram-right c (udp e i u) h = h .2
     datagram-right c (dhcp e i u m items) h = h .2
-    datagram-right c (tcp e i g) h = absurd (eqb-false 6 17 refl (sym (h .2 .carried) ∙ c))
+    datagram-right c (tcp e i g) h = absurd (clash (protocol p) 6 17 refl (h .2 .carried) c)
+    datagram-right c (otherIPv4 e i) h = absurd (h .2 .no-udp c)
 
     pub no-udp : protocol p ≡ 17 → (UDP p → ⊥) → Reads s (told Outside)
-    no-udp c f = refusing (λ d h. f (datagram-right c d h))
+    no-udp c g = refusing (λ d h. g (datagram-right c d h))
 
-    pub no-dhcp : protocol p ≡ 17 → CarriesDHCP p → (at : ℕ) → at ≡ dataAt s → (n : ℕ) → n ≡ 0 → MessageRead s at n → Reads s (told Outside)
-    unfolding Derives MessageRead
-    no-dhcp c f at e n none r =
-        let r′ = subst (λ (k : ℕ). MessageRead s k 0) e (subst (MessageRead s at) none r) in
-        refusing (λ d h. let o = dhcp-only s d h (w .typed) c f in r′ (o .0) (subst (Derives s) (o .1) h .7))
+    -- behind its two outer layers
+    module _ (start : ℕ) (ethernet ip : Parts·Layer) (o : Opened s start ethernet ip) where
+      -- the layer of a payload whose header has `m` bytes
+      inner-placed : (l : Parts·Layer) (n m : ℕ) → n ≡ m → l ≡ at start (start + n) (length s) → layerOf l ≡ payloadLayer m s
+      inner-placed l n m same e =
+          ap layerOf e ∙ placed (payloadAt s) m (payload p) start (start + n) (length s) (o .starts) (ap₂ _+_ (o .starts) same) stop-is
 
-    module _ (start : ℕ) (e : start ≡ payloadAt s) where
-      ip-lies : layerOf (from 14 start (length s)) ≡ ipLayer s
-      ip-lies = lies 14 start (length s) 14 (headerLength p) p refl e body-length
-
-      inner-lies : (n m : ℕ) → n ≡ m → layerOf (from start (start + n) (length s)) ≡ payloadLayer m s
-      inner-lies n m same = lies start (start + n) (length s) (payloadAt s) m (payload p) e (ap₂ _+_ e same) stop-is
-
-      pub other-taken : OtherIPv4 p → Reads s (told (OtherIpv4 (from 0 14 (length s)) (from 14 start (length s))))
+      pub other-taken : OtherIPv4 p → Reads s (told (OtherIpv4 ethernet ip))
       unfolding told Derives partsOf
-      other-taken o =
-          takes (other (ethernetLayer s) (ipLayer s)) (w, i, o, refl, refl)
-          (ap₂ (λ (a b : Layer). parts Report.OtherIPv4 (a ∷ b ∷ []) []) ethernet-lies ip-lies)
+      other-taken x =
+          takes (otherIPv4 (ethernetLayer s) (ipLayer s)) (f .ethernet, f .ip, x, refl, refl)
+          (ap₂ (λ (a b : Layer). parts otherIPv4Kind (a ∷ b ∷ []) []) (o .ethernet-is) (o .ip-is))
 
-      pub icmp-taken : ICMP p → Reads s (told (Icmp (from 0 14 (length s)) (from 14 start (length s)) (from start (start + 8) (length s))))
+      pub icmp-taken : ICMP p → (l : Parts·Layer) → l ≡ at start (start + 8) (length s) → Reads s (told (Icmp ethernet ip l))
       unfolding told Derives partsOf
-      icmp-taken m =
-          takes (icmp (ethernetLayer s) (ipLayer s) (payloadLayer 8 s)) (w, i, m, refl, refl, refl)
-          (ap₂ (λ (a b : Layer). parts Report.ICMP (a ∷ b ∷ layerOf (from start (start + 8) (length s)) ∷ []) []) ethernet-lies ip-lies
-          ∙ ap (λ (c : Layer). parts Report.ICMP (ethernetLayer s ∷ ipLayer s ∷ c ∷ []) []) (inner-lies 8 8 refl))
+      icmp-taken x l e =
+          takes (icmp (ethernetLayer s) (ipLayer s) (payloadLayer 8 s)) (f .ethernet, f .ip, x, refl, refl, refl)
+          (ap₂ (λ (a b : Layer). parts icmpKind (a ∷ b ∷ layerOf l ∷ []) []) (o .ethernet-is) (o .ip-is)
+          ∙ ap (λ (c : Layer). parts icmpKind (ethernetLayer s ∷ ipLayer s ∷ c ∷ []) []) (inner-placed l 8 8 refl e))
 
-      pub tcp-taken : (n : ℕ) → n ≡ dataOffset p * 4 → TCP p
-          → Reads s (told (Tcp (from 0 14 (length s)) (from 14 start (length s)) (from start (start + n) (length s))))
+      pub tcp-taken : TCP p → (n : ℕ) → n ≡ dataOffset p * 4 → (l : Parts·Layer) → l ≡ at start (start + n) (length s) → Reads s (told (Tcp ethernet ip l))
       unfolding told Derives partsOf
-      tcp-taken n same g =
-          takes (tcp (ethernetLayer s) (ipLayer s) (payloadLayer (dataOffset p * 4) s)) (w, i, g, refl, refl, refl)
-          (ap₂ (λ (a b : Layer). parts Report.TCP (a ∷ b ∷ layerOf (from start (start + n) (length s)) ∷ []) []) ethernet-lies ip-lies
-          ∙ ap (λ (c : Layer). parts Report.TCP (ethernetLayer s ∷ ipLayer s ∷ c ∷ []) []) (inner-lies n _ same))
+      tcp-taken x n same l e =
+          takes (tcp (ethernetLayer s) (ipLayer s) (payloadLayer (dataOffset p * 4) s)) (f .ethernet, f .ip, x, refl, refl, refl)
+          (ap₂ (λ (a b : Layer). parts tcpKind (a ∷ b ∷ layerOf l ∷ []) []) (o .ethernet-is) (o .ip-is)
+          ∙ ap (λ (c : Layer). parts tcpKind (ethernetLayer s ∷ ipLayer s ∷ c ∷ []) []) (inner-placed l n _ same e))
 
-      pub udp-taken : UDP p → (CarriesDHCP p → ⊥)
-          → Reads s (told (Udp (from 0 14 (length s)) (from 14 start (length s)) (from start (start + 8) (length s))))
+      pub udp-taken : UDP p → (CarriesDHCP p → ⊥) → (l : Parts·Layer) → l ≡ at start (start + 8) (length s) → Reads s (told (Udp ethernet ip l))
       unfolding told Derives partsOf
-      udp-taken u f =
-          takes (udp (ethernetLayer s) (ipLayer s) (payloadLayer 8 s)) (w, i, u, refl, refl, refl, f)
-          (ap₂ (λ (a b : Layer). parts Report.UDP (a ∷ b ∷ layerOf (from start (start + 8) (length s)) ∷ []) []) ethernet-lies ip-lies
-          ∙ ap (λ (c : Layer). parts Report.UDP (ethernetLayer s ∷ ipLayer s ∷ c ∷ []) []) (inner-lies 8 8 refl))
+      udp-taken x g l e =
+          takes (udp (ethernetLayer s) (ipLayer s) (payloadLayer 8 s)) (f .ethernet, f .ip, x, refl, refl, refl, g)
+          (ap₂ (λ (a b : Layer). parts udpKind (a ∷ b ∷ layerOf l ∷ []) []) (o .ethernet-is) (o .ip-is)
+          ∙ ap (λ (c : Layer). parts udpKind (ethernetLayer s ∷ ipLayer s ∷ c ∷ []) []) (inner-placed l 8 8 refl e))
+
+      pub no-dhcp : protocol p ≡ 17 → CarriesDHCP p → (n : ℕ) → n ≡ 0 → MessageRead s (start + 8) n → Reads s (told Outside)
+      unfolding Derives MessageRead
+      no-dhcp c g n none r =
+          let r′ = subst (λ (k : ℕ). MessageRead s (k + 8) 0) (o .starts) (subst (MessageRead s (start + 8)) none r) in
+          refusing (λ d h. let i = dhcp-only s d h (f .ethernet .typed) c g in r′ (i .0) (subst (Derives s) (i .1) h .7))
 
       pub dhcp-taken : UDP p → CarriesDHCP p → (n : ℕ) → (n ≡ 0 → ⊥) → MessageRead s (start + 8) n
-          → Reads s (told (Dhcp (from 0 14 (length s)) (from 14 start (length s)) (from start (start + 8) (length s)) (from (start + 8) (start + 8 + 240) (length s)) n))
+          → (l m : Parts·Layer) → l ≡ at start (start + 8) (length s) → m ≡ at (start + 8) (start + 8 + 240) (length s) → Reads s (told (Dhcp ethernet ip l m n))
       unfolding told Derives partsOf MessageRead
-      dhcp-taken u f zero some r = absurd (some refl)
-      dhcp-taken u f (suc n) some r =
-          let (items, d, value) = subst (λ (k : ℕ). MessageRead s (k + 8) (suc n)) e r in
-          let inside = data-inside u in
-          let stop : length s ≡ dataAt s + length (drop (dataAt s) s) = omega (arith, inside, length-drop (dataAt s) s) in
-          let lie = lies (start + 8) (start + 8 + 240) (length s) (dataAt s) 240 (drop (dataAt s) s) (ap (λ (k : ℕ). k + 8) e) (ap (λ (k : ℕ). k + 8 + 240) e) stop in
-          takes (dhcp (ethernetLayer s) (ipLayer s) (payloadLayer 8 s) (messageLayer s) items) (w, i, u, refl, refl, refl, f, d, refl)
-          (ap₂ (λ (a b : Layer). parts Report.DHCP (a ∷ b ∷ layerOf (from start (start + 8) (length s)) ∷ layerOf (from (start + 8) (start + 8 + 240) (length s)) ∷ []) (suc n ∷ [])) ethernet-lies ip-lies
-          ∙ ap₂ (λ (a b : Layer). parts Report.DHCP (ethernetLayer s ∷ ipLayer s ∷ a ∷ b ∷ []) (suc n ∷ [])) (inner-lies 8 8 refl) lie
-          ∙ ap (parts Report.DHCP (ethernetLayer s ∷ ipLayer s ∷ payloadLayer 8 s ∷ messageLayer s ∷ [])) (sym value))
+      dhcp-taken x g zero some r l m e k = absurd (some refl)
+      dhcp-taken x g (suc n) some r l m e k =
+          let (items, d, value) = subst (λ (j : ℕ). MessageRead s (j + 8) (suc n)) (o .starts) r in
+          let size = x .size in
+          let stop : length s ≡ dataAt s + length (drop (dataAt s) s) = omega (arith, stop-is, size, length-drop (dataAt s) s) in
+          let message-placed = ap layerOf k ∙ placed (dataAt s) 240 (drop (dataAt s) s) (start + 8) (start + 8 + 240) (length s) (ap (λ (j : ℕ). j + 8) (o .starts)) (ap (λ (j : ℕ). j + 8 + 240) (o .starts)) stop in
+          takes (dhcp (ethernetLayer s) (ipLayer s) (payloadLayer 8 s) (messageLayer s) items) (f .ethernet, f .ip, x, refl, refl, refl, g, d, refl)
+          (ap₂ (λ (a b : Layer). parts dhcpKind (a ∷ b ∷ layerOf l ∷ layerOf m ∷ []) (suc n ∷ [])) (o .ethernet-is) (o .ip-is)
+          ∙ ap₂ (λ (a b : Layer). parts dhcpKind (ethernetLayer s ∷ ipLayer s ∷ a ∷ b ∷ []) (suc n ∷ [])) (inner-placed l 8 8 refl e) message-placed
+          ∙ ap (parts dhcpKind (ethernetLayer s ∷ ipLayer s ∷ payloadLayer 8 s ∷ messageLayer s ∷ [])) (sym value))

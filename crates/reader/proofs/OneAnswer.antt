@@ -4,8 +4,7 @@ use mathlib.Core.Path.{_≡_, refl, ap, sym, _∙_}
 use mathlib.Core.List.{List}
 use lib.ListN.{getD}
 use Rattle.grammar.specs.Grammar.{Layer}
-use Rattle.grammar.specs.Report.{Report, parts, refused, Reads}
-use Rattle.grammar.specs.Report as Report
+use Rattle.grammar.specs.Report.{Report, parts, refused, Reads, arpKind, icmpKind, udpKind, dhcpKind, tcpKind, otherIPv4Kind}
 use Rattle.grammar.proofs.Exact.{one-report}
 use Rattle.reader.specs.Told.{told}
 use Rattle.reader.specs.declared.parts.Layer.{Layer as Parts·Layer}
@@ -24,12 +23,12 @@ back layers i =
     }
 
 untold : Report → Reading
-untold (parts Report.ARP l type) = Arp (back l 0)
-untold (parts Report.OtherIPv4 l type) = OtherIpv4 (back l 0) (back l 1)
-untold (parts Report.ICMP l type) = Icmp (back l 0) (back l 1) (back l 2)
-untold (parts Report.UDP l type) = Udp (back l 0) (back l 1) (back l 2)
-untold (parts Report.DHCP l type) = Dhcp (back l 0) (back l 1) (back l 2) (back l 3) (getD type 0 0)
-untold (parts Report.TCP l type) = Tcp (back l 0) (back l 1) (back l 2)
+untold (parts arpKind l type) = Arp (back l 0)
+untold (parts otherIPv4Kind l type) = OtherIpv4 (back l 0) (back l 1)
+untold (parts icmpKind l type) = Icmp (back l 0) (back l 1) (back l 2)
+untold (parts udpKind l type) = Udp (back l 0) (back l 1) (back l 2)
+untold (parts dhcpKind l type) = Dhcp (back l 0) (back l 1) (back l 2) (back l 3) (getD type 0 0)
+untold (parts tcpKind l type) = Tcp (back l 0) (back l 1) (back l 2)
 untold (refused number) = Outside
 
 told-back : (r : Reading) → untold (told r) ≡ r

@@ -1,7 +1,9 @@
 // The strict reader: it takes a frame exactly when document 01's grammar derives it, and reports the
 // derivation's parts. It relies on no check by its caller; the gateway does not use it.
-ghost use Rattle.grammar.specs.Grammar.{Ethernet, IPv4, body};
+ghost use mathlib.Core.Path.{_≡_};
+ghost use Rattle.grammar.specs.Grammar.{body, protocol};
 ghost use Rattle.grammar.specs.Report.{Reads};
+ghost use Rattle.reader.specs.Helpers.{Framed, Opened};
 ghost use Rattle.reader.specs.Told.{told};
 
 mod arp;
@@ -13,6 +15,7 @@ use fields::byte_at;
 use fields::u16be;
 pub use parts::Layer;
 pub use parts::Reading;
+use parts::laid;
 
 const ETHERNET_HEADER: usize = 14;
 
@@ -43,11 +46,7 @@ pub fn read(frame: &[u8]) -> Reading
             return Reading::Outside;
         }
         return Reading::Arp {
-            ethernet: Layer {
-                header: 0,
-                payload: ETHERNET_HEADER,
-                stop,
-            },
+            ethernet: laid(0, ETHERNET_HEADER, stop),
         };
     }
     if kind != ETHERTYPE_IP {
@@ -61,64 +60,57 @@ pub fn read(frame: &[u8]) -> Reading
 
 // The same of a frame whose IPv4 header is right.
 fn read_payload(frame: &[u8]) -> Reading
-    requires { ⌜ Ethernet (now frame) 0x0800 ⌝ }
-    requires { ⌜ IPv4 (body (now frame)) ⌝ }
+    requires { ⌜ Framed (now frame) ⌝ }
     ensures { λ r. ⌜ Reads (now (frame .entry)) (told r) ⌝ }
 {
     let stop = frame.len();
     let packet = &frame[ETHERNET_HEADER..];
     let start = ETHERNET_HEADER + ipv4::header_length(packet);
-    let ethernet = Layer {
-        header: 0,
-        payload: ETHERNET_HEADER,
-        stop,
-    };
-    let ip = Layer {
-        header: ETHERNET_HEADER,
-        payload: start,
-        stop,
-    };
+    let ethernet = laid(0, ETHERNET_HEADER, stop);
+    let ip = laid(ETHERNET_HEADER, start, stop);
     let protocol = byte_at(packet, ipv4::PROTOCOL);
     if protocol == ICMP {
         if !payloads::is_icmp(packet) {
             return Reading::Outside;
         }
+        let message = laid(start, start + payloads::ICMP_HEADER, stop);
         return Reading::Icmp {
             ethernet,
             ip,
-            message: Layer {
-                header: start,
-                payload: start + payloads::ICMP_HEADER,
-                stop,
-            },
+            message,
         };
     }
     if protocol == TCP {
         if !payloads::is_tcp(packet) {
             return Reading::Outside;
         }
+        let segment = laid(start, start + payloads::tcp_header_length(packet), stop);
         return Reading::Tcp {
             ethernet,
             ip,
-            segment: Layer {
-                header: start,
-                payload: start + payloads::tcp_header_length(packet),
-                stop,
-            },
+            segment,
         };
     }
-    if protocol != UDP {
-        return Reading::OtherIpv4 { ethernet, ip };
+    if protocol == UDP {
+        return read_datagram(frame, start, ethernet, ip);
     }
+    Reading::OtherIpv4 { ethernet, ip }
+}
+
+// The same where the payload, which starts at `start`, is UDP, behind these two layers.
+fn read_datagram(frame: &[u8], start: usize, ethernet: Layer, ip: Layer) -> Reading
+    requires { ⌜ Framed (now frame) ⌝ }
+    requires { ⌜ protocol (body (now frame)) ≡ 17 ⌝ }
+    requires { ⌜ Opened (now frame) start ethernet ip ⌝ }
+    ensures { λ r. ⌜ Reads (now (frame .entry)) (told r) ⌝ }
+{
+    let stop = frame.len();
+    let packet = &frame[ETHERNET_HEADER..];
     if !payloads::is_udp(packet) {
         return Reading::Outside;
     }
     let data = start + payloads::UDP_HEADER;
-    let datagram = Layer {
-        header: start,
-        payload: data,
-        stop,
-    };
+    let datagram = laid(start, data, stop);
     if !payloads::carries_dhcp(packet) {
         return Reading::Udp {
             ethernet,
@@ -130,15 +122,12 @@ fn read_payload(frame: &[u8]) -> Reading
     if message_type == 0 {
         return Reading::Outside;
     }
+    let message = laid(data, data + messages::HEADER, stop);
     Reading::Dhcp {
         ethernet,
         ip,
         datagram,
-        message: Layer {
-            header: data,
-            payload: data + messages::HEADER,
-            stop,
-        },
+        message,
         message_type,
     }
 }

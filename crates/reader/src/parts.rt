@@ -1,4 +1,5 @@
 // What the reader reports of a frame. Places are counted from the frame's first byte.
+ghost use mathlib.Core.Path.{_≡_};
 
 // A header runs from `header` to its payload, and the payload from `payload` up to, not including,
 // `stop`.
@@ -42,4 +43,14 @@ pub enum Reading {
     },
     // Verdict 8: outside the grammar.
     Outside,
+}
+
+pub fn laid(header: usize, payload: usize, stop: usize) -> Layer
+    ensures { λ r. ⌜ r ≡ record { header = header; payload = payload; stop = stop } ⌝ }
+{
+    Layer {
+        header,
+        payload,
+        stop,
+    }
 }

@@ -239,7 +239,7 @@ read-item-returns-5 t c =
     let no-end : u8At s at ≡ 255 → ⊥ = c .before .before .before .before .before .before .before .before .before .pre .1 .1 .1 in
     let len : ℕ = c .before .before .before .widened .result in
     let stated : u8At s (at + 1) ≡ len = sym (c .before .before .before .widened .ensures .0 ∙ c .before .before .before .before .byte-at2 .ensures) in
-    second-type s at seen inside no-pad no-end len stated (sym code ∙ c .before .if4 .left) (c .if5 .taken)
+    second-type s at seen inside no-pad no-end len stated (sym code ∙ c .before .if4 .left) (λ z. omega (arith, z, c .if5 .taken))
 
 read-item-returns-6 : (t : ℕ) → read-item-lts.Need-returns-6 (
   byte-at-reads.Asked,
@@ -299,7 +299,7 @@ read-item-returns-7 t c =
     let no-end : u8At s at ≡ 255 → ⊥ = c .before .before .before .before .before .before .before .before .before .before .before .before .pre .1 .1 .1 in
     let len : ℕ = c .before .before .before .before .before .before .widened .result in
     let stated : u8At s (at + 1) ≡ len = sym (c .before .before .before .before .before .before .widened .ensures .0 ∙ c .before .before .before .before .before .before .before .byte-at2 .ensures) in
-    type-small s at seen inside no-pad no-end len stated (sym code ∙ c .before .before .before .before .if4 .left) (sym (c .before .byte-at3 .ensures) ∙ c .if7 .taken)
+    type-small s at seen inside no-pad no-end len stated (sym code ∙ c .before .before .before .before .if4 .left) (omega (arith, stated, c .before .before .if6 .left, c .before .byte-at3 .ensures, c .if7 .taken))
 
 read-item-returns-8 : (t : ℕ) → read-item-lts.Need-returns-8 (
   byte-at-reads.Asked,
@@ -319,7 +319,7 @@ read-item-returns-8 t c =
     let no-end : u8At s at ≡ 255 → ⊥ = c .before .before .before .before .before .before .before .before .before .before .before .before .before .pre .1 .1 .1 in
     let len : ℕ = c .before .before .before .before .before .before .before .widened .result in
     let stated : u8At s (at + 1) ≡ len = sym (c .before .before .before .before .before .before .before .widened .ensures .0 ∙ c .before .before .before .before .before .before .before .before .byte-at2 .ensures) in
-    type-large s at seen inside no-pad no-end len stated (sym code ∙ c .before .before .before .before .before .if4 .left) (subst (λ (n : ℕ). 8 < n) (c .before .before .byte-at3 .ensures) (c .if8 .taken))
+    type-large s at seen inside no-pad no-end len stated (sym code ∙ c .before .before .before .before .before .if4 .left) (omega (arith, stated, c .before .before .before .if6 .left, c .before .before .byte-at3 .ensures, c .if8 .taken))
 
 read-item-add-read-list-4 : (t : ℕ) → read-item-lts.Need-add-read-list-4 (
   byte-at-reads.Asked,

@@ -32,10 +32,13 @@ returns-2 c =
     let s : List ℕ = c .before .before .before .before .before .before .before .args .frame .now in
     no-arp s (sym (c .before .before .before .before .u16be .ensures) ∙ c .before .before .if2 .taken) (tells-not {A = ARP (body s)} (c .before .is-arp .result) (of-rest ARP 14 s (c .before .is-arp .result) (c .before .is-arp .ensures)) (c .if3 .taken))
 
+laid-requires : tie.Need-laid-requires
+laid-requires c κs = search needs
+
 returns-3 : tie.Need-returns-3
 returns-3 c =
-    let s : List ℕ = c .before .before .before .before .before .before .before .args .frame .now in
-    arp-taken s (c .before .before .before .before .before .if1 .left) (sym (c .before .before .before .before .u16be .ensures) ∙ c .before .before .if2 .taken) (tells-yes {A = ARP (body s)} (c .before .is-arp .result) (of-rest ARP 14 s (c .before .is-arp .result) (c .before .is-arp .ensures)) (c .if3 .left))
+    let s : List ℕ = c .before .before .before .before .before .before .before .before .args .frame .now in
+    arp-taken s (record { whole = c .before .before .before .before .before .before .if1 .left; typed = sym (c .before .before .before .before .before .u16be .ensures) ∙ c .before .before .before .if2 .taken }) (tells-yes {A = ARP (body s)} (c .before .before .is-arp .result) (of-rest ARP 14 s (c .before .before .is-arp .result) (c .before .before .is-arp .ensures)) (c .before .if3 .left)) (c .laid .result) (c .laid .ensures)
 
 returns-4 : tie.Need-returns-4
 returns-4 c = no-ipv4 (c .before .before .before .before .before .before .args .frame .now) (λ e. c .before .if2 .left (c .before .before .before .u16be .ensures ∙ e)) (λ e i. c .if4 .taken (c .before .before .before .u16be .ensures ∙ e))
@@ -51,7 +54,7 @@ returns-5 c =
 read-payload-requires : tie.Need-read-payload-requires
 read-payload-requires c κs =
     let s : List ℕ = c .before .before .before .before .before .before .before .before .args .frame .now in
-    (record { whole = c .before .before .before .before .before .before .if1 .left; typed = sym (c .before .before .before .before .before .u16be .ensures) ∙ c .before .before .if4 .left }, (tells-yes {A = IPv4 (body s)} (c .before .is-ipv4 .result) (of-rest IPv4 14 s (c .before .is-ipv4 .result) (c .before .is-ipv4 .ensures)) (c .if5 .left)))
+    record { ethernet = record { whole = c .before .before .before .before .before .before .if1 .left; typed = sym (c .before .before .before .before .before .u16be .ensures) ∙ c .before .before .if4 .left }; ip = (tells-yes {A = IPv4 (body s)} (c .before .is-ipv4 .result) (of-rest IPv4 14 s (c .before .is-ipv4 .result) (c .before .is-ipv4 .ensures)) (c .if5 .left)) }
 
 returns-6 : tie.Need-returns-6
 returns-6 c = search needs
@@ -67,6 +70,7 @@ read-spec =
     part-packet-end
     is-arp-requires
     returns-2
+    laid-requires
     returns-3
     returns-4
     is-ipv4-requires
