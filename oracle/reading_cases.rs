@@ -18,14 +18,18 @@ pub enum Origin {
     Drawn = 7,
 }
 
+/// The words are the program's too, which names its rows by them.
 pub const ORIGINS: [(Origin, &str); 7] = [
-    (Origin::Captured, "as real software sent it"),
-    (Origin::Damaged, "captured and damaged in one field"),
-    (Origin::Sums, "checksums stored as 0 and 0xffff"),
-    (Origin::Lengths, "lengths at their limits, trailing bytes"),
+    (Origin::Captured, "captured as real software sent it"),
+    (Origin::Damaged, "captured, and damaged"),
+    (Origin::Sums, "checksums stored as 0 and 0xffff, both ways"),
+    (
+        Origin::Lengths,
+        "lengths at a limit and one past it, and trailing bytes",
+    ),
     (Origin::Options, "option lists"),
-    (Origin::Own, "made by the gateway and the builders"),
-    (Origin::Drawn, "drawn"),
+    (Origin::Own, "the Rust's replies and built frames"),
+    (Origin::Drawn, "drawn at random"),
 ];
 
 const SPOILED: u8 = 0x80;
@@ -145,16 +149,47 @@ impl ReadingList {
         head + &self.text
     }
 
+    /// What the program has to print of the list.
+    pub fn tally(&self) -> String {
+        let mut rows = vec![(
+            "spoiled line, found wrong: ".to_string(),
+            self.count(|kind| kind >= SPOILED, None),
+        )];
+        for (origin, words) in ORIGINS {
+            let lines = self.count(|kind| kind < SPOILED, Some(origin));
+            rows.push((format!("{words}: "), lines));
+        }
+        for kind in 0..=6 {
+            let words = if kind == 0 {
+                "outside the grammar"
+            } else {
+                name(kind)
+            };
+            rows.push((format!("by kind, {words}: "), self.count(|k| k == kind, None)));
+        }
+        rows.push((String::new(), self.count(|_| true, None)));
+        rows.into_iter()
+            .filter(|(_, lines)| *lines > 0)
+            .map(|(words, lines)| format!("{words}{lines} agree, 0 do not\n"))
+            .collect()
+    }
+
+    fn count(&self, is_of: impl Fn(u8) -> bool, origin: Option<Origin>) -> usize {
+        let counts = self.counts.iter();
+        counts
+            .filter(|((kind, of), _)| is_of(*kind) && origin.is_none_or(|origin| origin == *of))
+            .map(|(_, lines)| lines)
+            .sum()
+    }
+
     fn row(&self, words: &str, is_of: impl Fn(u8) -> bool) -> String {
-        let count = |origin: Option<Origin>| -> usize {
-            let counts = self.counts.iter();
-            counts
-                .filter(|((kind, of), _)| is_of(*kind) && origin.is_none_or(|origin| origin == *of))
-                .map(|(_, lines)| lines)
-                .sum()
-        };
-        let by_origin = ORIGINS.map(|(origin, _)| format!("{:>6}", count(Some(origin))));
-        format!("  {words:<16}{}{:>6}", by_origin.concat(), count(None))
+        let by_origin =
+            ORIGINS.map(|(origin, _)| format!("{:>6}", self.count(&is_of, Some(origin))));
+        format!(
+            "  {words:<16}{}{:>6}",
+            by_origin.concat(),
+            self.count(&is_of, None)
+        )
     }
 }
 

@@ -25,8 +25,17 @@ mod readings_sums;
 
 use reading_cases::ReadingList;
 
+/// `readings`: the list that is stored. `readings tally`: what the program has to print of it.
+/// `readings damaged`: every captured frame of the grammar damaged in every field, a list too long to
+/// store.
 fn main() {
+    let wanted = std::env::args().nth(1);
     let mut list = ReadingList::new();
+    if wanted.as_deref() == Some("damaged") {
+        readings_damaged::list_all(&mut list);
+        print!("{}", list.finish());
+        return;
+    }
     readings_captured::list(&mut list);
     readings_damaged::list(&mut list);
     readings_sums::list(&mut list);
@@ -35,5 +44,9 @@ fn main() {
     readings_own::list(&mut list);
     readings_drawn::list(&mut list);
     readings_spoiled::list(&mut list);
-    print!("{}", list.finish());
+    if wanted.as_deref() == Some("tally") {
+        print!("{}", list.tally());
+    } else {
+        print!("{}", list.finish());
+    }
 }

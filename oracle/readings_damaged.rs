@@ -5,7 +5,7 @@ use crate::grammar_01::{self, Kind, Layer, Reading};
 use crate::guest_frames::*;
 use crate::mended::{mended, shorter, with_header_options, with_lengths};
 use crate::reading_cases::{Origin, ReadingList};
-use crate::readings_captured::sent;
+use crate::readings_captured::{captured, sent};
 
 /// What the document says of a frame whose field has another value, its sums right.
 #[derive(Clone, Copy, PartialEq)]
@@ -487,6 +487,15 @@ fn lists_changed(list: &mut ReadingList, frame: &[u8]) {
         let field = &frame[udp_at + 4..udp_at + 6];
         let stale = mended(with(short, udp_at + 4, field));
         list.refused(Origin::Damaged, "UDP: length field", &stale);
+    }
+}
+
+/// Every captured frame that is in the grammar, every value of every field.
+pub fn list_all(list: &mut ReadingList) {
+    for frame in captured().into_iter().map(|captured| captured.frame) {
+        if grammar_01::read(&frame).is_some() {
+            damaged(list, &frame, Damage::Whole);
+        }
     }
 }
 

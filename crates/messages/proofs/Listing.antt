@@ -13,13 +13,12 @@ use lib.Seq.{drop-cons, drop-drop, length-take-le}
 use borrow.Author.Tests.{ne-eqb, eqb-false}
 use Rattle.fields.specs.Bytes.{u8At}
 use Rattle.grammar.specs.Grammar.{Item, pad, option, ItemList, END, item, IsList, options53}
-use Rattle.messages.specs.Messages.{AllZero}
-use Rattle.messages.specs.Messages.{Gives, before, within, ListGives, Listed}
+use Rattle.messages.specs.Messages.{AllZero, Gives, before, within, ListGives, Listed}
 use Rattle.grammar.proofs.Items.{Starts, ends, pads, opts, starts, list-nil, no-cons, head-same, tail-same}
 use Rattle.messages.proofs.AllZero.{all-zeros, zeros-all}
 
 -- an option at `at`, and the rest of the list behind it
-pub record OptionAt (s : List ℕ) (at len : ℕ) (rest : ItemList) : Type 0 where
+record OptionAt (s : List ℕ) (at len : ℕ) (rest : ItemList) : Type 0 where
   pub inside : at + 2 + len ≤ length s
   pub stated : u8At s (at + 1) ≡ len
   pub more : IsList (at + 2 + len) (drop (at + 2 + len) s) rest
@@ -32,7 +31,7 @@ step s at next seen seen′ zero to from h = λ type g. h type (to type g)
 step s at next seen seen′ (suc n) to from h = from (suc n) h
 
 -- no list gives a type
-pub nothing : (s : List ℕ) (at seen : ℕ) → ((type : ℕ) → ListGives s at seen type → ⊥) → Listed s at seen 0
+nothing : (s : List ℕ) (at seen : ℕ) → ((type : ℕ) → ListGives s at seen type → ⊥) → Listed s at seen 0
 unfolding Listed
 nothing s at seen h = h
 
@@ -48,13 +47,13 @@ gives-same s seen type a b e (before least f t) = before least f (sym e ∙ t)
 gives-same s seen type a b e (within z p t v least most) = within z p (sym e ∙ t) v least most
 
 -- an option that isn't 53 is none of them
-pub types-other : (place code len : ℕ) → (code ≡ 53 → ⊥) → (rest : ItemList) → options53 (item (option place code len) rest) ≡ options53 rest
+types-other : (place code len : ℕ) → (code ≡ 53 → ⊥) → (rest : ItemList) → options53 (item (option place code len) rest) ≡ options53 rest
 unfolding options53
 types-other place code len other rest =
     ap (λ (b : Bool). elim b [ true ↦ option place code len ∷ options53 rest | false ↦ options53 rest ]) (ne-eqb code 53 other)
 
 -- an option 53 is the first of them
-pub types-53 : (place code len : ℕ) → code ≡ 53 → (rest : ItemList) → options53 (item (option place code len) rest) ≡ option place 53 len ∷ options53 rest
+types-53 : (place code len : ℕ) → code ≡ 53 → (rest : ItemList) → options53 (item (option place code len) rest) ≡ option place 53 len ∷ options53 rest
 unfolding options53
 types-53 place code len e rest = ap (λ (n : ℕ). options53 (item (option place n len) rest)) e
 

@@ -33,11 +33,11 @@ pub fn print(tally: Tally) {
     let names = b"line not understood\n\
           spoiled line, found wrong\n\
           captured as real software sent it\n\
-          captured, and damaged in one field\n\
+          captured, and damaged\n\
           checksums stored as 0 and 0xffff, both ways\n\
           lengths at a limit and one past it, and trailing bytes\n\
           option lists\n\
-          made by our own gateway and builders\n\
+          the Rust's replies and built frames\n\
           drawn at random\n\
           by kind, outside the grammar\n\
           by kind, ARP\n\

@@ -8,8 +8,7 @@ use native.Mathlib.Omega.{arith}
 use native.Mathlib.Nat.{pos-of-ne-zero}
 use lib.ListN.{length, drop}
 use Rattle.fields.specs.Bytes.{u8At}
-use Rattle.messages.specs.Messages.{AllZero}
-use Rattle.messages.specs.Messages.{Listed}
+use Rattle.messages.specs.Messages.{AllZero, Listed}
 use Rattle.messages.proofs.Telling.{tells-not, tells-yes}
 use Rattle.messages.proofs.Listing.{past, end-refused, end-taken, pad-on, option-cut, option-over, other-on, second-type, type-length, type-small, type-large, type-on}
 use borrow.Fn.Kinds.{In}
