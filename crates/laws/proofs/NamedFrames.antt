@@ -1,4 +1,4 @@
--- The frame grammar is neither empty nor everything: of document 01's frames some are derived and others are not, and a checksum is right as 0 and as 0xffff. All by computation.
+-- The frame grammar is neither empty nor everything: of the frames of the marked cases some are derived and others are not, and a checksum is right as 0 and as 0xffff. All by computation.
 use Prim.Native.Nat.{ℕ}
 use mathlib.Core.Path.{_≡_, refl}
 use mathlib.Core.Logic.{inl, inr}
@@ -15,7 +15,7 @@ use Rattle.laws.specs.Derivations.{arpDerivation, icmpDerivation}
 use Rattle.laws.specs.Marked.{arpRequest, ping, pong}
 use Rattle.laws.proofs.Demand3.{refuses-exactly, reports-its-parts}
 
--- A1's request
+-- the request of A1, as the table has it
 pub request-derived : Derives arpRequest (arpDerivation 42)
 unfolding Derives
 request-derived =
@@ -26,7 +26,7 @@ pub pong-derived : Derives pong (icmpDerivation 42)
 unfolding Derives SumsRight total words sum fold
 pong-derived = (omega arith, omega arith, omega arith, refl, refl, refl)
 
--- P1's ping, whose IPv4 header has the checksum 0
+-- the ping of P1, which the table of marked cases has with the checksum 0 in its IPv4 header
 pub ping-outside : (d : Derivation) → Derives ping d → ⊥
 unfolding SumsRight total words sum fold
 ping-outside d x = elim (arp-or-ipv4 ping d x) [ inl a ↦ omega arith | inr i ↦ omega arith ]

@@ -1,4 +1,4 @@
--- The derivation, by the frame grammar, of each frame that is built: where its headers and payloads start and stop, in a frame of `n` bytes.
+-- The derivation, by the frame grammar, of each kind of frame that we build: where its headers and payloads start and stop, in a frame of `n` bytes.
 use Prim.Native.Nat.{ℕ, _+_}
 use mathlib.Core.Path.{_≡_}
 use mathlib.Core.List.{List, [], _∷_}
