@@ -332,6 +332,8 @@ fn list_fields(list: &[u8], list_at: usize) -> Vec<Field> {
 #[derive(Clone, Copy, PartialEq)]
 enum Damage {
     /// Every field to every value.
+    Every,
+    /// The same, but DHCP's outer headers to their fields' first values.
     Whole,
     /// Every field to its first value.
     Once,
@@ -368,14 +370,15 @@ fn damaged(list: &mut ReadingList, frame: &[u8], damage: Damage) {
     let is_named = |field: &Field| damage != Damage::Named || field.says != Free;
     for field in outer_fields(frame).into_iter().filter(is_named) {
         // DHCP's lines are long, and its outer headers are like any other's.
-        let is_whole = damage == Damage::Whole && !is_dhcp;
+        let is_whole = damage == Damage::Every || damage == Damage::Whole && !is_dhcp;
         damaged_in(list, frame, &field, is_whole, true);
     }
     let list_at = DATA_AT + OPTIONS_AT;
     for field in own_fields(frame) {
         let is_fixed = matches!(field.says, Breaks(_)) && field.at < list_at;
         let unmended = damage != Damage::Named || is_fixed;
-        damaged_in(list, frame, &field, damage == Damage::Whole, unmended);
+        let is_whole = matches!(damage, Damage::Every | Damage::Whole);
+        damaged_in(list, frame, &field, is_whole, unmended);
     }
 }
 
@@ -494,7 +497,7 @@ fn lists_changed(list: &mut ReadingList, frame: &[u8]) {
 pub fn list_all(list: &mut ReadingList) {
     for frame in captured().into_iter().map(|captured| captured.frame) {
         if grammar_01::read(&frame).is_some() {
-            damaged(list, &frame, Damage::Whole);
+            damaged(list, &frame, Damage::Every);
         }
     }
 }
