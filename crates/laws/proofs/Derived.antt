@@ -10,6 +10,7 @@ use Rattle.frames.specs.declared.network.Network.{Network}
 use Rattle.frames.proofs.Lengths.{length-datagram}
 use Rattle.frames.proofs.ReadBack.{DatagramOf, datagram-reads-back}
 use Rattle.grammar.specs.Grammar.{body, payload, CarriesDHCP, dataOffset, unsummed, UDP, Derives}
+use Rattle.grammar.proofs.Places.{placed}
 use Rattle.rules.specs.Rfc792.{echo}
 use Rattle.rules.specs.Rfc826.{arpReply}
 use Rattle.slirp.proofs.ReadBack.{arp-reads-back, echo-reads-back}
@@ -19,7 +20,6 @@ use Rattle.tcp.proofs.ReadBack.{SegmentOf, segment-reads-back}
 use Rattle.tcp.proofs.SumsRight.{segment-sums-right}
 use Rattle.tcp.proofs.TcpLaws.{length-segment, syn-cases}
 use Rattle.laws.specs.Derivations.{arpDerivation, otherDerivation, icmpDerivation, udpDerivation, tcpDerivation}
-use Rattle.grammar.proofs.Places.{placed}
 use Rattle.laws.proofs.DerivedIp.{Packet, payload-placed}
 
 -- an ARP reply

@@ -15,9 +15,9 @@ use Rattle.frames.proofs.Lengths.{length-datagram}
 use Rattle.frames.proofs.Lists.{all-bytes}
 use Rattle.grammar.specs.Grammar.{body, ItemList, END, item, option, IsList, options53, CarriesDHCP, DHCP, dataAt, Derives}
 use Rattle.grammar.specs.Report.{partsOf}
+use Rattle.grammar.proofs.Places.{placed}
 use Rattle.rules.specs.declared.decision.Decision.the-variants.{DhcpReply}
 use Rattle.laws.specs.Derivations.{replyItems, DerivedAs}
-use Rattle.grammar.proofs.Places.{placed}
 use Rattle.laws.proofs.DerivedIp.{Packet, payload-placed, payload-byte}
 use Rattle.laws.proofs.Derived.{datagram-derived}
 

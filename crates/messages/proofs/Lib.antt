@@ -2,5 +2,5 @@
 pub mod Telling
 mod AllZero
 mod Listing
-mod Headed
+mod MessageRead
 pub mod OneAnswer

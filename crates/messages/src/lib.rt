@@ -116,7 +116,7 @@ fn read_item(frame: &[u8], at: usize, seen: u8) -> u8
     if left < 2 {
         return 0;
     }
-    let len = widened(byte_at(frame, at + 1));
+    let len = byte_at(frame, at + 1) as usize;
     if left - 2 < len {
         return 0;
     }
@@ -151,11 +151,4 @@ fn zeros(frame: &[u8], from: usize) -> bool
         i += 1;
     }
     true
-}
-
-// A byte as a length, with its bound.
-fn widened(byte: u8) -> usize
-    ensures { λ r. ⌜ (r ≡ byte) × (r < 256) ⌝ }
-{
-    byte as usize
 }

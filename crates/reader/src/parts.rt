@@ -45,6 +45,7 @@ pub enum Reading {
     Outside,
 }
 
+// A layer by its three places.
 pub fn laid(header: usize, payload: usize, stop: usize) -> Layer
     ensures { λ r. ⌜ r ≡ record { header = header; payload = payload; stop = stop } ⌝ }
 {

@@ -20,7 +20,6 @@ use Rattle.messages.proofs.read_list.Reads as read-list
 use Rattle.messages.proofs.read_list.Kinds as read-list-kinds
 use Rattle.messages.proofs.+read_item+read_list.Lts-read_list as read-list-lts
 use Rattle.fields.proofs.byte_at.Reads as byte-at-reads
-use Rattle.messages.proofs.widened.Reads as widened-reads
 use Rattle.messages.proofs.zeros.Reads as zeros-reads
 use Rattle.messages.proofs.+read_item+read_list.{statement}
 use Rattle.messages.proofs.+read_item+read_list.Tie.{close}
@@ -50,8 +49,6 @@ read-item-byte-at-requires : (t : ℕ) → read-item-lts.Need-byte-at-requires (
   byte-at-reads.Learnt,
   read-list-below t,
   read-list.Post,
-  widened-reads.Asked,
-  widened-reads.Learnt,
 ) (read-item-at t) read-item.Post
 read-item-byte-at-requires t c κs = search needs
 
@@ -60,8 +57,6 @@ read-item-add-read-list : (t : ℕ) → read-item-lts.Need-add-read-list (
   byte-at-reads.Learnt,
   read-list-below t,
   read-list.Post,
-  widened-reads.Asked,
-  widened-reads.Learnt,
 ) (read-item-at t) read-item.Post
 read-item-add-read-list t c = search needs
 
@@ -70,8 +65,6 @@ read-item-read-list-requires : (t : ℕ) → read-item-lts.Need-read-list-requir
   byte-at-reads.Learnt,
   read-list-below t,
   read-list.Post,
-  widened-reads.Asked,
-  widened-reads.Learnt,
 ) (read-item-at t) read-item.Post
 read-item-read-list-requires t c κs = (omega (arith, c .before .before .before .pre .0, c .before .before .before .pre .1 .0), omega (arith, c .before .before .before .pre .1 .1 .0))
 
@@ -80,8 +73,6 @@ read-item-returns : (t : ℕ) → read-item-lts.Need-returns (
   byte-at-reads.Learnt,
   read-list-below t,
   read-list.Post,
-  widened-reads.Asked,
-  widened-reads.Learnt,
 ) (read-item-at t) read-item.Post
 read-item-returns t c =
     let s : List ℕ = c .before .before .before .before .args .frame .now in
@@ -96,8 +87,6 @@ read-item-sub-left : (t : ℕ) → read-item-lts.Need-sub-left (
   byte-at-reads.Learnt,
   read-list-below t,
   read-list.Post,
-  widened-reads.Asked,
-  widened-reads.Learnt,
 ) (read-item-at t) read-item.Post
 read-item-sub-left t c = search needs
 
@@ -106,8 +95,6 @@ read-item-returns-2 : (t : ℕ) → read-item-lts.Need-returns-2 (
   byte-at-reads.Learnt,
   read-list-below t,
   read-list.Post,
-  widened-reads.Asked,
-  widened-reads.Learnt,
 ) (read-item-at t) read-item.Post
 read-item-returns-2 t c =
     let s : List ℕ = c .before .before .before .before .args .frame .now in
@@ -124,8 +111,6 @@ read-item-add-byte-at : (t : ℕ) → read-item-lts.Need-add-byte-at (
   byte-at-reads.Learnt,
   read-list-below t,
   read-list.Post,
-  widened-reads.Asked,
-  widened-reads.Learnt,
 ) (read-item-at t) read-item.Post
 read-item-add-byte-at t c = search needs
 
@@ -134,48 +119,40 @@ read-item-byte-at-requires-2 : (t : ℕ) → read-item-lts.Need-byte-at-requires
   byte-at-reads.Learnt,
   read-list-below t,
   read-list.Post,
-  widened-reads.Asked,
-  widened-reads.Learnt,
 ) (read-item-at t) read-item.Post
 read-item-byte-at-requires-2 t c κs = search needs
 
-read-item-widened-requires : (t : ℕ) → read-item-lts.Need-widened-requires (
+read-item-cast-len : (t : ℕ) → read-item-lts.Need-cast-len (
   byte-at-reads.Asked,
   byte-at-reads.Learnt,
   read-list-below t,
   read-list.Post,
-  widened-reads.Asked,
-  widened-reads.Learnt,
 ) (read-item-at t) read-item.Post
-read-item-widened-requires t c κs = search needs
+read-item-cast-len t c = search needs
 
 read-item-returns-3 : (t : ℕ) → read-item-lts.Need-returns-3 (
   byte-at-reads.Asked,
   byte-at-reads.Learnt,
   read-list-below t,
   read-list.Post,
-  widened-reads.Asked,
-  widened-reads.Learnt,
 ) (read-item-at t) read-item.Post
 read-item-returns-3 t c =
-    let s : List ℕ = c .before .before .before .before .before .before .before .args .frame .now in
-    let at : ℕ = c .before .before .before .before .before .before .before .args .at in
-    let seen : ℕ = c .before .before .before .before .before .before .before .args .seen in
-    let inside : at < length s = c .before .before .before .before .before .before .before .pre .1 .0 in
-    let code : c .before .before .before .before .before .byte-at .result ≡ u8At s at = c .before .before .before .before .before .byte-at .ensures in
-    let no-pad : u8At s at ≡ 0 → ⊥ = λ e. c .before .before .before .before .if1 .left (code ∙ e) in
-    let no-end : u8At s at ≡ 255 → ⊥ = c .before .before .before .before .before .before .before .pre .1 .1 .1 in
-    let len : ℕ = c .before .widened .result in
-    let stated : u8At s (at + 1) ≡ len = sym (c .before .widened .ensures .0 ∙ c .before .before .byte-at2 .ensures) in
-    option-over s at seen inside no-pad no-end len stated (omega (arith, c .if3 .taken, c .before .before .before .if2 .left))
+    let s : List ℕ = c .before .before .before .before .before .before .args .frame .now in
+    let at : ℕ = c .before .before .before .before .before .before .args .at in
+    let seen : ℕ = c .before .before .before .before .before .before .args .seen in
+    let inside : at < length s = c .before .before .before .before .before .before .pre .1 .0 in
+    let code : c .before .before .before .before .byte-at .result ≡ u8At s at = c .before .before .before .before .byte-at .ensures in
+    let no-pad : u8At s at ≡ 0 → ⊥ = λ e. c .before .before .before .if1 .left (code ∙ e) in
+    let no-end : u8At s at ≡ 255 → ⊥ = c .before .before .before .before .before .before .pre .1 .1 .1 in
+    let len : ℕ = c .before .byte-at2 .result in
+    let stated : u8At s (at + 1) ≡ len = sym (c .before .byte-at2 .ensures) in
+    option-over s at seen inside no-pad no-end len stated (omega (arith, c .if3 .taken, c .before .before .if2 .left))
 
 read-item-add-read-list-2 : (t : ℕ) → read-item-lts.Need-add-read-list-2 (
   byte-at-reads.Asked,
   byte-at-reads.Learnt,
   read-list-below t,
   read-list.Post,
-  widened-reads.Asked,
-  widened-reads.Learnt,
 ) (read-item-at t) read-item.Post
 read-item-add-read-list-2 t c = search needs
 
@@ -184,8 +161,6 @@ read-item-add-read-list-3 : (t : ℕ) → read-item-lts.Need-add-read-list-3 (
   byte-at-reads.Learnt,
   read-list-below t,
   read-list.Post,
-  widened-reads.Asked,
-  widened-reads.Learnt,
 ) (read-item-at t) read-item.Post
 read-item-add-read-list-3 t c = search needs
 
@@ -194,50 +169,44 @@ read-item-read-list-requires-2 : (t : ℕ) → read-item-lts.Need-read-list-requ
   byte-at-reads.Learnt,
   read-list-below t,
   read-list.Post,
-  widened-reads.Asked,
-  widened-reads.Learnt,
 ) (read-item-at t) read-item.Post
-read-item-read-list-requires-2 t c κs = (omega (arith, c .before .before .before .before .before .before .before .before .pre .0, c .before .before .before .before .before .before .before .before .pre .1 .0), omega (arith, c .before .before .before .before .before .before .before .before .pre .1 .1 .0))
+read-item-read-list-requires-2 t c κs = (omega (arith, c .before .before .before .before .before .before .before .pre .0, c .before .before .before .before .before .before .before .pre .1 .0), omega (arith, c .before .before .before .before .before .before .before .pre .1 .1 .0))
 
 read-item-returns-4 : (t : ℕ) → read-item-lts.Need-returns-4 (
   byte-at-reads.Asked,
   byte-at-reads.Learnt,
   read-list-below t,
   read-list.Post,
-  widened-reads.Asked,
-  widened-reads.Learnt,
 ) (read-item-at t) read-item.Post
 read-item-returns-4 t c =
-    let s : List ℕ = c .before .before .before .before .before .before .before .before .before .args .frame .now in
-    let at : ℕ = c .before .before .before .before .before .before .before .before .before .args .at in
-    let seen : ℕ = c .before .before .before .before .before .before .before .before .before .args .seen in
-    let inside : at < length s = c .before .before .before .before .before .before .before .before .before .pre .1 .0 in
-    let code : c .before .before .before .before .before .before .before .byte-at .result ≡ u8At s at = c .before .before .before .before .before .before .before .byte-at .ensures in
-    let no-pad : u8At s at ≡ 0 → ⊥ = λ e. c .before .before .before .before .before .before .if1 .left (code ∙ e) in
-    let no-end : u8At s at ≡ 255 → ⊥ = c .before .before .before .before .before .before .before .before .before .pre .1 .1 .1 in
-    let len : ℕ = c .before .before .before .widened .result in
-    let stated : u8At s (at + 1) ≡ len = sym (c .before .before .before .widened .ensures .0 ∙ c .before .before .before .before .byte-at2 .ensures) in
-    let most : u8At s at ≤ 254 = omega (arith, code, c .before .before .before .before .before .before .before .byte-at .ok, no-end) in
-    other-on s at seen inside no-pad no-end len stated (omega (arith, c .before .before .if3 .left, c .before .before .before .before .before .if2 .left)) most (λ e. c .before .if4 .taken (code ∙ e)) (c .read-list2 .result) (c .read-list2 .ensures)
+    let s : List ℕ = c .before .before .before .before .before .before .before .before .args .frame .now in
+    let at : ℕ = c .before .before .before .before .before .before .before .before .args .at in
+    let seen : ℕ = c .before .before .before .before .before .before .before .before .args .seen in
+    let inside : at < length s = c .before .before .before .before .before .before .before .before .pre .1 .0 in
+    let code : c .before .before .before .before .before .before .byte-at .result ≡ u8At s at = c .before .before .before .before .before .before .byte-at .ensures in
+    let no-pad : u8At s at ≡ 0 → ⊥ = λ e. c .before .before .before .before .before .if1 .left (code ∙ e) in
+    let no-end : u8At s at ≡ 255 → ⊥ = c .before .before .before .before .before .before .before .before .pre .1 .1 .1 in
+    let len : ℕ = c .before .before .before .byte-at2 .result in
+    let stated : u8At s (at + 1) ≡ len = sym (c .before .before .before .byte-at2 .ensures) in
+    let most : u8At s at ≤ 254 = omega (arith, code, c .before .before .before .before .before .before .byte-at .ok, no-end) in
+    other-on s at seen inside no-pad no-end len stated (omega (arith, c .before .before .if3 .left, c .before .before .before .before .if2 .left)) most (λ e. c .before .if4 .taken (code ∙ e)) (c .read-list2 .result) (c .read-list2 .ensures)
 
 read-item-returns-5 : (t : ℕ) → read-item-lts.Need-returns-5 (
   byte-at-reads.Asked,
   byte-at-reads.Learnt,
   read-list-below t,
   read-list.Post,
-  widened-reads.Asked,
-  widened-reads.Learnt,
 ) (read-item-at t) read-item.Post
 read-item-returns-5 t c =
-    let s : List ℕ = c .before .before .before .before .before .before .before .before .before .args .frame .now in
-    let at : ℕ = c .before .before .before .before .before .before .before .before .before .args .at in
-    let seen : ℕ = c .before .before .before .before .before .before .before .before .before .args .seen in
-    let inside : at < length s = c .before .before .before .before .before .before .before .before .before .pre .1 .0 in
-    let code : c .before .before .before .before .before .before .before .byte-at .result ≡ u8At s at = c .before .before .before .before .before .before .before .byte-at .ensures in
-    let no-pad : u8At s at ≡ 0 → ⊥ = λ e. c .before .before .before .before .before .before .if1 .left (code ∙ e) in
-    let no-end : u8At s at ≡ 255 → ⊥ = c .before .before .before .before .before .before .before .before .before .pre .1 .1 .1 in
-    let len : ℕ = c .before .before .before .widened .result in
-    let stated : u8At s (at + 1) ≡ len = sym (c .before .before .before .widened .ensures .0 ∙ c .before .before .before .before .byte-at2 .ensures) in
+    let s : List ℕ = c .before .before .before .before .before .before .before .before .args .frame .now in
+    let at : ℕ = c .before .before .before .before .before .before .before .before .args .at in
+    let seen : ℕ = c .before .before .before .before .before .before .before .before .args .seen in
+    let inside : at < length s = c .before .before .before .before .before .before .before .before .pre .1 .0 in
+    let code : c .before .before .before .before .before .before .byte-at .result ≡ u8At s at = c .before .before .before .before .before .before .byte-at .ensures in
+    let no-pad : u8At s at ≡ 0 → ⊥ = λ e. c .before .before .before .before .before .if1 .left (code ∙ e) in
+    let no-end : u8At s at ≡ 255 → ⊥ = c .before .before .before .before .before .before .before .before .pre .1 .1 .1 in
+    let len : ℕ = c .before .before .before .byte-at2 .result in
+    let stated : u8At s (at + 1) ≡ len = sym (c .before .before .before .byte-at2 .ensures) in
     second-type s at seen inside no-pad no-end len stated (sym code ∙ c .before .if4 .left) (λ z. omega (arith, z, c .if5 .taken))
 
 read-item-returns-6 : (t : ℕ) → read-item-lts.Need-returns-6 (
@@ -245,19 +214,17 @@ read-item-returns-6 : (t : ℕ) → read-item-lts.Need-returns-6 (
   byte-at-reads.Learnt,
   read-list-below t,
   read-list.Post,
-  widened-reads.Asked,
-  widened-reads.Learnt,
 ) (read-item-at t) read-item.Post
 read-item-returns-6 t c =
-    let s : List ℕ = c .before .before .before .before .before .before .before .before .before .before .args .frame .now in
-    let at : ℕ = c .before .before .before .before .before .before .before .before .before .before .args .at in
-    let seen : ℕ = c .before .before .before .before .before .before .before .before .before .before .args .seen in
-    let inside : at < length s = c .before .before .before .before .before .before .before .before .before .before .pre .1 .0 in
-    let code : c .before .before .before .before .before .before .before .before .byte-at .result ≡ u8At s at = c .before .before .before .before .before .before .before .before .byte-at .ensures in
-    let no-pad : u8At s at ≡ 0 → ⊥ = λ e. c .before .before .before .before .before .before .before .if1 .left (code ∙ e) in
-    let no-end : u8At s at ≡ 255 → ⊥ = c .before .before .before .before .before .before .before .before .before .before .pre .1 .1 .1 in
-    let len : ℕ = c .before .before .before .before .widened .result in
-    let stated : u8At s (at + 1) ≡ len = sym (c .before .before .before .before .widened .ensures .0 ∙ c .before .before .before .before .before .byte-at2 .ensures) in
+    let s : List ℕ = c .before .before .before .before .before .before .before .before .before .args .frame .now in
+    let at : ℕ = c .before .before .before .before .before .before .before .before .before .args .at in
+    let seen : ℕ = c .before .before .before .before .before .before .before .before .before .args .seen in
+    let inside : at < length s = c .before .before .before .before .before .before .before .before .before .pre .1 .0 in
+    let code : c .before .before .before .before .before .before .before .byte-at .result ≡ u8At s at = c .before .before .before .before .before .before .before .byte-at .ensures in
+    let no-pad : u8At s at ≡ 0 → ⊥ = λ e. c .before .before .before .before .before .before .if1 .left (code ∙ e) in
+    let no-end : u8At s at ≡ 255 → ⊥ = c .before .before .before .before .before .before .before .before .before .pre .1 .1 .1 in
+    let len : ℕ = c .before .before .before .before .byte-at2 .result in
+    let stated : u8At s (at + 1) ≡ len = sym (c .before .before .before .before .byte-at2 .ensures) in
     type-length s at seen inside no-pad no-end len stated (sym code ∙ c .before .before .if4 .left) (c .if6 .taken)
 
 read-item-add-byte-at-2 : (t : ℕ) → read-item-lts.Need-add-byte-at-2 (
@@ -265,8 +232,6 @@ read-item-add-byte-at-2 : (t : ℕ) → read-item-lts.Need-add-byte-at-2 (
   byte-at-reads.Learnt,
   read-list-below t,
   read-list.Post,
-  widened-reads.Asked,
-  widened-reads.Learnt,
 ) (read-item-at t) read-item.Post
 read-item-add-byte-at-2 t c = search needs
 
@@ -275,8 +240,6 @@ read-item-byte-at-requires-3 : (t : ℕ) → read-item-lts.Need-byte-at-requires
   byte-at-reads.Learnt,
   read-list-below t,
   read-list.Post,
-  widened-reads.Asked,
-  widened-reads.Learnt,
 ) (read-item-at t) read-item.Post
 read-item-byte-at-requires-3 t c κs = search needs
 
@@ -285,19 +248,17 @@ read-item-returns-7 : (t : ℕ) → read-item-lts.Need-returns-7 (
   byte-at-reads.Learnt,
   read-list-below t,
   read-list.Post,
-  widened-reads.Asked,
-  widened-reads.Learnt,
 ) (read-item-at t) read-item.Post
 read-item-returns-7 t c =
-    let s : List ℕ = c .before .before .before .before .before .before .before .before .before .before .before .before .args .frame .now in
-    let at : ℕ = c .before .before .before .before .before .before .before .before .before .before .before .before .args .at in
-    let seen : ℕ = c .before .before .before .before .before .before .before .before .before .before .before .before .args .seen in
-    let inside : at < length s = c .before .before .before .before .before .before .before .before .before .before .before .before .pre .1 .0 in
-    let code : c .before .before .before .before .before .before .before .before .before .before .byte-at .result ≡ u8At s at = c .before .before .before .before .before .before .before .before .before .before .byte-at .ensures in
-    let no-pad : u8At s at ≡ 0 → ⊥ = λ e. c .before .before .before .before .before .before .before .before .before .if1 .left (code ∙ e) in
-    let no-end : u8At s at ≡ 255 → ⊥ = c .before .before .before .before .before .before .before .before .before .before .before .before .pre .1 .1 .1 in
-    let len : ℕ = c .before .before .before .before .before .before .widened .result in
-    let stated : u8At s (at + 1) ≡ len = sym (c .before .before .before .before .before .before .widened .ensures .0 ∙ c .before .before .before .before .before .before .before .byte-at2 .ensures) in
+    let s : List ℕ = c .before .before .before .before .before .before .before .before .before .before .before .args .frame .now in
+    let at : ℕ = c .before .before .before .before .before .before .before .before .before .before .before .args .at in
+    let seen : ℕ = c .before .before .before .before .before .before .before .before .before .before .before .args .seen in
+    let inside : at < length s = c .before .before .before .before .before .before .before .before .before .before .before .pre .1 .0 in
+    let code : c .before .before .before .before .before .before .before .before .before .byte-at .result ≡ u8At s at = c .before .before .before .before .before .before .before .before .before .byte-at .ensures in
+    let no-pad : u8At s at ≡ 0 → ⊥ = λ e. c .before .before .before .before .before .before .before .before .if1 .left (code ∙ e) in
+    let no-end : u8At s at ≡ 255 → ⊥ = c .before .before .before .before .before .before .before .before .before .before .before .pre .1 .1 .1 in
+    let len : ℕ = c .before .before .before .before .before .before .byte-at2 .result in
+    let stated : u8At s (at + 1) ≡ len = sym (c .before .before .before .before .before .before .byte-at2 .ensures) in
     type-small s at seen inside no-pad no-end len stated (sym code ∙ c .before .before .before .before .if4 .left) (omega (arith, stated, c .before .before .if6 .left, c .before .byte-at3 .ensures, c .if7 .taken))
 
 read-item-returns-8 : (t : ℕ) → read-item-lts.Need-returns-8 (
@@ -305,19 +266,17 @@ read-item-returns-8 : (t : ℕ) → read-item-lts.Need-returns-8 (
   byte-at-reads.Learnt,
   read-list-below t,
   read-list.Post,
-  widened-reads.Asked,
-  widened-reads.Learnt,
 ) (read-item-at t) read-item.Post
 read-item-returns-8 t c =
-    let s : List ℕ = c .before .before .before .before .before .before .before .before .before .before .before .before .before .args .frame .now in
-    let at : ℕ = c .before .before .before .before .before .before .before .before .before .before .before .before .before .args .at in
-    let seen : ℕ = c .before .before .before .before .before .before .before .before .before .before .before .before .before .args .seen in
-    let inside : at < length s = c .before .before .before .before .before .before .before .before .before .before .before .before .before .pre .1 .0 in
-    let code : c .before .before .before .before .before .before .before .before .before .before .before .byte-at .result ≡ u8At s at = c .before .before .before .before .before .before .before .before .before .before .before .byte-at .ensures in
-    let no-pad : u8At s at ≡ 0 → ⊥ = λ e. c .before .before .before .before .before .before .before .before .before .before .if1 .left (code ∙ e) in
-    let no-end : u8At s at ≡ 255 → ⊥ = c .before .before .before .before .before .before .before .before .before .before .before .before .before .pre .1 .1 .1 in
-    let len : ℕ = c .before .before .before .before .before .before .before .widened .result in
-    let stated : u8At s (at + 1) ≡ len = sym (c .before .before .before .before .before .before .before .widened .ensures .0 ∙ c .before .before .before .before .before .before .before .before .byte-at2 .ensures) in
+    let s : List ℕ = c .before .before .before .before .before .before .before .before .before .before .before .before .args .frame .now in
+    let at : ℕ = c .before .before .before .before .before .before .before .before .before .before .before .before .args .at in
+    let seen : ℕ = c .before .before .before .before .before .before .before .before .before .before .before .before .args .seen in
+    let inside : at < length s = c .before .before .before .before .before .before .before .before .before .before .before .before .pre .1 .0 in
+    let code : c .before .before .before .before .before .before .before .before .before .before .byte-at .result ≡ u8At s at = c .before .before .before .before .before .before .before .before .before .before .byte-at .ensures in
+    let no-pad : u8At s at ≡ 0 → ⊥ = λ e. c .before .before .before .before .before .before .before .before .before .if1 .left (code ∙ e) in
+    let no-end : u8At s at ≡ 255 → ⊥ = c .before .before .before .before .before .before .before .before .before .before .before .before .pre .1 .1 .1 in
+    let len : ℕ = c .before .before .before .before .before .before .before .byte-at2 .result in
+    let stated : u8At s (at + 1) ≡ len = sym (c .before .before .before .before .before .before .before .byte-at2 .ensures) in
     type-large s at seen inside no-pad no-end len stated (sym code ∙ c .before .before .before .before .before .if4 .left) (omega (arith, stated, c .before .before .before .if6 .left, c .before .before .byte-at3 .ensures, c .if8 .taken))
 
 read-item-add-read-list-4 : (t : ℕ) → read-item-lts.Need-add-read-list-4 (
@@ -325,8 +284,6 @@ read-item-add-read-list-4 : (t : ℕ) → read-item-lts.Need-add-read-list-4 (
   byte-at-reads.Learnt,
   read-list-below t,
   read-list.Post,
-  widened-reads.Asked,
-  widened-reads.Learnt,
 ) (read-item-at t) read-item.Post
 read-item-add-read-list-4 t c = search needs
 
@@ -335,33 +292,29 @@ read-item-read-list-requires-3 : (t : ℕ) → read-item-lts.Need-read-list-requ
   byte-at-reads.Learnt,
   read-list-below t,
   read-list.Post,
-  widened-reads.Asked,
-  widened-reads.Learnt,
 ) (read-item-at t) read-item.Post
-read-item-read-list-requires-3 t c κs = (omega (arith, c .before .before .before .before .before .before .before .before .before .before .before .before .before .pre .0, c .before .before .before .before .before .before .before .before .before .before .before .before .before .pre .1 .0), omega (arith, c .before .before .before .before .before .before .before .before .before .before .before .before .before .pre .1 .1 .0))
+read-item-read-list-requires-3 t c κs = (omega (arith, c .before .before .before .before .before .before .before .before .before .before .before .before .pre .0, c .before .before .before .before .before .before .before .before .before .before .before .before .pre .1 .0), omega (arith, c .before .before .before .before .before .before .before .before .before .before .before .before .pre .1 .1 .0))
 
 read-item-returns-9 : (t : ℕ) → read-item-lts.Need-returns-9 (
   byte-at-reads.Asked,
   byte-at-reads.Learnt,
   read-list-below t,
   read-list.Post,
-  widened-reads.Asked,
-  widened-reads.Learnt,
 ) (read-item-at t) read-item.Post
 read-item-returns-9 t c =
-    let s : List ℕ = c .before .before .before .before .before .before .before .before .before .before .before .before .before .before .args .frame .now in
-    let at : ℕ = c .before .before .before .before .before .before .before .before .before .before .before .before .before .before .args .at in
-    let seen : ℕ = c .before .before .before .before .before .before .before .before .before .before .before .before .before .before .args .seen in
-    let inside : at < length s = c .before .before .before .before .before .before .before .before .before .before .before .before .before .before .pre .1 .0 in
-    let code : c .before .before .before .before .before .before .before .before .before .before .before .before .byte-at .result ≡ u8At s at = c .before .before .before .before .before .before .before .before .before .before .before .before .byte-at .ensures in
-    let no-pad : u8At s at ≡ 0 → ⊥ = λ e. c .before .before .before .before .before .before .before .before .before .before .before .if1 .left (code ∙ e) in
-    let no-end : u8At s at ≡ 255 → ⊥ = c .before .before .before .before .before .before .before .before .before .before .before .before .before .before .pre .1 .1 .1 in
-    let len : ℕ = c .before .before .before .before .before .before .before .before .widened .result in
-    let stated : u8At s (at + 1) ≡ len = sym (c .before .before .before .before .before .before .before .before .widened .ensures .0 ∙ c .before .before .before .before .before .before .before .before .before .byte-at2 .ensures) in
+    let s : List ℕ = c .before .before .before .before .before .before .before .before .before .before .before .before .before .args .frame .now in
+    let at : ℕ = c .before .before .before .before .before .before .before .before .before .before .before .before .before .args .at in
+    let seen : ℕ = c .before .before .before .before .before .before .before .before .before .before .before .before .before .args .seen in
+    let inside : at < length s = c .before .before .before .before .before .before .before .before .before .before .before .before .before .pre .1 .0 in
+    let code : c .before .before .before .before .before .before .before .before .before .before .before .byte-at .result ≡ u8At s at = c .before .before .before .before .before .before .before .before .before .before .before .byte-at .ensures in
+    let no-pad : u8At s at ≡ 0 → ⊥ = λ e. c .before .before .before .before .before .before .before .before .before .before .if1 .left (code ∙ e) in
+    let no-end : u8At s at ≡ 255 → ⊥ = c .before .before .before .before .before .before .before .before .before .before .before .before .before .pre .1 .1 .1 in
+    let len : ℕ = c .before .before .before .before .before .before .before .before .byte-at2 .result in
+    let stated : u8At s (at + 1) ≡ len = sym (c .before .before .before .before .before .before .before .before .byte-at2 .ensures) in
     let value = c .before .before .before .byte-at3 .ensures in
     let one : len ≡ 1 = c .before .before .before .before .if6 .left in
     let next : at + 3 ≡ at + 2 + len = omega (arith, one) in
-    type-on s at seen inside no-pad no-end len stated (sym code ∙ c .before .before .before .before .before .before .if4 .left) (omega (arith, c .before .before .before .before .before .before .before .if3 .left, c .before .before .before .before .before .before .before .before .before .before .if2 .left)) (c .before .before .before .before .before .if5 .left) one (pos-of-ne-zero (λ z. c .before .before .if7 .left (value ∙ z))) (omega (arith, value, c .before .if8 .left))
+    type-on s at seen inside no-pad no-end len stated (sym code ∙ c .before .before .before .before .before .before .if4 .left) (omega (arith, c .before .before .before .before .before .before .before .if3 .left, c .before .before .before .before .before .before .before .before .before .if2 .left)) (c .before .before .before .before .before .if5 .left) one (pos-of-ne-zero (λ z. c .before .before .if7 .left (value ∙ z))) (omega (arith, value, c .before .if8 .left))
     (c .read-list3 .result) (subst (λ (n : ℕ). Listed s n (u8At s (at + 2)) (c .read-list3 .result)) next (subst (λ (n : ℕ). Listed s (at + 3) n (c .read-list3 .result)) value (c .read-list3 .ensures)))
 
 read-list-returns : (t : ℕ) → read-list-lts.Need-returns (
@@ -462,8 +415,6 @@ pub +read-item+read-list-spec : {M : Type 1} → statement M
   byte-at-reads.Learnt,
   read-list-below t,
   read-list.Post,
-  widened-reads.Asked,
-  widened-reads.Learnt,
 )
     (read-item-at t)
     read-item.Post
@@ -475,7 +426,7 @@ pub +read-item+read-list-spec : {M : Type 1} → statement M
     (read-item-returns-2 t)
     (read-item-add-byte-at t)
     (read-item-byte-at-requires-2 t)
-    (read-item-widened-requires t)
+    (read-item-cast-len t)
     (read-item-returns-3 t)
     (read-item-add-read-list-2 t)
     (read-item-add-read-list-3 t)

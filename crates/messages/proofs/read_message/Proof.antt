@@ -1,11 +1,11 @@
--- `read_message` meets its contract: the laws of `Headed`, at the slice from `at` on.
+-- `read_message` meets its contract: the laws of `MessageRead`, at the slice from `at` on.
 use borrow.Author.Needs.{needs}
 use Prim.Native.Nat.{ℕ}
 use mathlib.Core.List.{List}
 use native.Mathlib.Omega.{arith}
 use lib.ListN.{drop, length-drop}
 use Rattle.grammar.specs.Grammar.{DHCPHeader}
-use Rattle.messages.proofs.Headed.{no-message, message-read}
+use Rattle.messages.proofs.MessageRead.{no-message, message-read}
 use Rattle.messages.proofs.Telling.{tells-not, tells-yes, of-rest}
 use Rattle.messages.proofs.read_message.Statement.{statement}
 use Rattle.messages.proofs.read_message.Tie as tie
