@@ -1,2 +1,3 @@
 pub mod Operations
 pub mod Sum
+pub mod Builders

@@ -1,15 +1,18 @@
 -- The Rust's operations, by whether what they ask for is there.
 use Prim.Native.Nat.{ℕ, _+_, _-_, _≤_, _<_}
 use mathlib.Core.Path.{_≡_, refl, ap, sym, _∙_}
-use mathlib.Core.Bool.{_&&_}
-use mathlib.Core.List.{List, [], _∷_, _++_, append-assoc}
+use mathlib.Core.Bool.{Bool, true, false, _&&_, cond}
+use mathlib.Core.List.{List, [], _∷_, _++_, append-assoc, append-nil}
 use native.Mathlib.Omega.{arith}
-use borrow.Author.Tests.{lt-ltb, le-ltb, le-leb, lt-leb, eq-eqb}
-use lib.ListN.{length, getD, take, drop, replicate, length-append}
+use borrow.Author.Tests.{lt-ltb, le-ltb, ltb-true, ltb-false, le-leb, lt-leb, eq-eqb}
+use native.Mathlib.Nat.{add-assoc}
+use lib.ListN.{length, getD, take, drop, replicate, length-append, length-replicate, replicate-append-replicate}
 use lib.Seq.{take-at, drop-at}
-use Rattle.fields.specs.Bytes.{bytesAt}
+use lib.Dec.{ltb, leb}
+use Rattle.fields.specs.Bytes.{be16, bytesAt}
 use Rattle.frames.proofs.Lists.{part-bytes}
-use Rattle.published.specs.Rust.{Run, gives, panics, Slice, lenOf, index, range, array, store, copy}
+use Rattle.equal.specs.Bytes.{Bytes}
+use Rattle.published.specs.Rust.{Run, gives, panics, Slice, lenOf, index, range, array, zeros, store, copy}
 
 module _ (s : Slice) where
   pub index-in : (i : ℕ) → i < lenOf s → index s i ≡ gives (getD (s .bytes) i 0)
@@ -31,3 +34,56 @@ module _ (s : Slice) where
   pub array-of : (n : ℕ) → lenOf s ≡ n → array n s ≡ gives (s .bytes)
   unfolding array
   array-of n h = simp (eq-eqb (lenOf s) n h)
+
+-- a copy over a part of a vector
+pub copy-over : (front old back s : List ℕ) (a b : ℕ) → length front ≡ a → a + length old ≡ b → length s ≡ length old
+    → copy (front ++ (old ++ back)) a b s ≡ gives (front ++ (s ++ back))
+unfolding copy
+copy-over front old back s a b e f g =
+    rw (
+      le-leb a b (omega arith),
+      le-leb b (length (front ++ (old ++ back))) (omega (arith, length-append front (old ++ back), length-append old back)),
+      eq-eqb (length s) (b - a) (omega arith),
+      take-at front (old ++ back) a e,
+      ← append-assoc front old back,
+      drop-at (front ++ old) back b (omega (arith, length-append front old)),
+      append-assoc front s back,
+    )
+
+-- a copy into zeros that end the vector: those before it, those behind it
+pub copy-zeros : (front s : List ℕ) (gap k n a b : ℕ) → n ≡ gap + length s + k → length front + gap ≡ a → a + length s ≡ b
+    → copy (front ++ zeros n) a b s ≡ gives (front ++ zeros gap ++ s ++ zeros k)
+copy-zeros front s gap k n a b e f g =
+    ap (λ (v : List ℕ). copy v a b s) split
+    ∙ copy-over (front ++ zeros gap) (zeros (length s)) (zeros k) s a b
+    (omega (arith, length-append front (zeros gap), length-replicate {A = ℕ} gap 0)) (omega (arith, length-replicate {A = ℕ} (length s) 0)) (sym (length-replicate {A = ℕ} (length s) 0))
+    ∙ ap gives (sym (append-assoc (front ++ zeros gap) s (zeros k)))
+  where
+    split : front ++ zeros n ≡ front ++ zeros gap ++ (zeros (length s) ++ zeros k)
+    split =
+        rw (append-assoc front (zeros gap) (zeros (length s) ++ zeros k), replicate-append-replicate {A = ℕ} (length s) k 0, replicate-append-replicate {A = ℕ} gap (length s + k) 0)
+        (ap (λ (m : ℕ). front ++ zeros m) (e ∙ add-assoc gap (length s) k))
+
+-- a copy up to the end of such a vector
+pub copy-end : (front s : List ℕ) (gap n a : ℕ) → n ≡ gap + length s → length front + gap ≡ a
+    → copy (front ++ zeros n) a (length (front ++ zeros n)) s ≡ gives (front ++ zeros gap ++ s)
+copy-end front s gap n a e f =
+    copy-zeros front s gap 0 n a (length (front ++ zeros n)) (omega arith) f (omega (arith, length-append front (zeros n), length-replicate {A = ℕ} n 0))
+    ∙ ap gives (append-nil (front ++ zeros gap ++ s))
+
+-- a byte stored is a copy of one byte
+pub store-copies : (v : List ℕ) (i x : ℕ) → store v i x ≡ copy v i (i + 1) (x ∷ [])
+unfolding store copy
+store-copies v i x = rw (le-leb i (i + 1) (omega arith), eq-eqb 1 (i + 1 - i) (omega arith)) (go (ltb i (length v)) refl)
+  where
+    go : (t : Bool) → ltb i (length v) ≡ t → cond (ltb i (length v)) (gives (take i v ++ (x ∷ []) ++ drop (i + 1) v)) panics
+        ≡ cond (leb (i + 1) (length v) && true) (gives (take i v ++ (x ∷ []) ++ drop (i + 1) v)) panics
+    go true e = rw (e, le-leb (i + 1) (length v) (omega (arith, ltb-true i (length v) e)))
+    go false e = rw (e, lt-leb (i + 1) (length v) (omega (arith, ltb-false i (length v) e)))
+
+pub bytes-append : (s t : List ℕ) → Bytes s → Bytes t → Bytes (s ++ t)
+bytes-append [] t p q = q
+bytes-append (b ∷ s) t p q = (p .0, bytes-append s t (p .1) q)
+
+pub be16-bytes : (n : ℕ) → n < 65536 → Bytes (be16 n)
+be16-bytes n h = (omega arith, (omega arith, tt))

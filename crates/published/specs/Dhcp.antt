@@ -5,7 +5,7 @@ use mathlib.Core.List.{List, [], _∷_}
 use lib.Dec.{ltb, leb, eqb}
 use lib.ListN.{length}
 use Rattle.published.specs.Rust.{Run, gives, unfinished, _▹_, Slice, whole, lenOf, index, range, array, zeros, store, copy, asU8, u32FromBe, u32ToBe}
-use Rattle.published.specs.Frames.{«BCAST_IP», «BCAST_MAC», «GUEST_IP», «GW_IP», «IP_PROTO_UDP», «SUBNET», «eth_src», «make_ip_frame», «make_udp_payload»}
+use Rattle.published.specs.Frames.{«BCAST_IP», «BCAST_MAC», «GUEST_IP», «GW_IP», «IP_PROTO_UDP», SUBNET, «eth_src», «make_ip_frame», «make_udp_payload»}
 use Rattle.published.specs.Backend.{SlirpBackend, withXid, pushed}
 
 abbrev pub «MAGIC_COOKIE» : ℕ
@@ -20,17 +20,17 @@ abbrev pub «OPTION_PAD» : ℕ
 abbrev pub «OPTION_MESSAGE_TYPE» : ℕ
 «OPTION_MESSAGE_TYPE» = 53
 
-abbrev pub «DISCOVER» : ℕ
-«DISCOVER» = 1
+abbrev pub DISCOVER : ℕ
+DISCOVER = 1
 
-abbrev pub «OFFER» : ℕ
-«OFFER» = 2
+abbrev pub OFFER : ℕ
+OFFER = 2
 
-abbrev pub «REQUEST» : ℕ
-«REQUEST» = 3
+abbrev pub REQUEST : ℕ
+REQUEST = 3
 
-abbrev pub «ACK» : ℕ
-«ACK» = 5
+abbrev pub ACK : ℕ
+ACK = 5
 
 -- while i < dhcp.len()
 unfoldable pub scan : (turns : ℕ) (dhcp : Slice) (i : ℕ) → Run ℕ
@@ -81,7 +81,7 @@ unfoldable pub «build_reply» : (xid : ℕ) («client_mac» : List ℕ) («msg_
     option «OPTION_MESSAGE_TYPE» («msg_type» ∷ []) (record { p = p; at = 240 }) ▹ λ o.
     option 54 «GW_IP» o ▹ λ o.
     option 51 (u32ToBe 86400) o ▹ λ o.
-    option 1 «SUBNET» o ▹ λ o.
+    option 1 SUBNET o ▹ λ o.
     option 3 «GW_IP» o ▹ λ o.
     option 6 «GW_IP» o ▹ λ o.
     store (o .p) (o .at) «OPTION_END»
@@ -112,8 +112,8 @@ unfoldable pub «handle_dhcp» : (self : SlirpBackend) (frame dhcp : Slice) → 
     cond (not (eqb (u32FromBe bytes) «MAGIC_COOKIE»))
     (gives self)
     («message_type» dhcp ▹ λ type.
-    cond (eqb type «DISCOVER»)
-    («send_dhcp_reply» self frame xid «OFFER»)
-    (cond (eqb type «REQUEST»)
-    («send_dhcp_reply» self frame xid «ACK»)
+    cond (eqb type DISCOVER)
+    («send_dhcp_reply» self frame xid OFFER)
+    (cond (eqb type REQUEST)
+    («send_dhcp_reply» self frame xid ACK)
     (gives self)))))

@@ -14,8 +14,8 @@ abbrev pub «GW_IP» : List ℕ
 abbrev pub «GUEST_IP» : List ℕ
 «GUEST_IP» = 10 ∷ 0 ∷ 2 ∷ 15 ∷ []
 
-abbrev pub «SUBNET» : List ℕ
-«SUBNET» = 255 ∷ 255 ∷ 255 ∷ 0 ∷ []
+abbrev pub SUBNET : List ℕ
+SUBNET = 255 ∷ 255 ∷ 255 ∷ 0 ∷ []
 
 abbrev pub «BCAST_IP» : List ℕ
 «BCAST_IP» = 10 ∷ 0 ∷ 2 ∷ 255 ∷ []
@@ -41,8 +41,8 @@ abbrev pub «IP_PROTO_TCP» : ℕ
 abbrev pub «IP_PROTO_UDP» : ℕ
 «IP_PROTO_UDP» = 17
 
-abbrev pub «SYN» : ℕ
-«SYN» = 0x02
+abbrev pub SYN : ℕ
+SYN = 0x02
 
 unfoldable pub «eth_src» : (frame : Slice) → Run Slice
 «eth_src» frame = range frame 6 12
@@ -72,8 +72,8 @@ unfoldable pub «ip_payload» : (frame : Slice) → Run Slice
     «ip_hlen» frame ▹ λ hlen.
     rangeFrom frame (14 + hlen)
 
-unfoldable pub «u16be» : (buf : Slice) (offset : ℕ) → Run ℕ
-«u16be» buf offset =
+unfoldable pub u16be : (buf : Slice) (offset : ℕ) → Run ℕ
+u16be buf offset =
     index buf offset ▹ λ high.
     index buf (offset + 1) ▹ λ low.
     gives (u16FromBe high low)
@@ -107,8 +107,8 @@ folded (suc turns) sum =
     (gives sum)
 
 -- a turn for each byte and the test that ends them; three turns and the test fold 32 bits
-unfoldable pub «checksum» : («data» : Slice) → Run ℕ
-«checksum» «data» =
+unfoldable pub checksum : («data» : Slice) → Run ℕ
+checksum «data» =
     sumFrom (suc (lenOf «data»)) «data» 0 0 ▹ λ sum.
     folded 4 sum ▹ λ sum.
     gives (65535 - sum % 65536)
@@ -131,7 +131,7 @@ unfoldable pub «make_ip_frame» : (counter : ℕ) («dst_mac» «src_ip» «dst
     store ip 9 proto ▹ λ ip.
     copy ip 12 16 «src_ip» ▹ λ ip.
     copy ip 16 20 «dst_ip» ▹ λ ip.
-    «checksum» (whole ip) ▹ λ csum.
+    checksum (whole ip) ▹ λ csum.
     copy ip 10 12 (u16ToBe csum) ▹ λ ip.
     let frame = zeros (14 + 20 + lenOf payload) in
     copy frame 0 6 «dst_mac» ▹ λ frame.
@@ -152,7 +152,7 @@ unfoldable pub «make_udp_payload» : («src_port» «dst_port» : ℕ) («data�
 
 unfoldable pub «make_tcp_frame» : (counter : ℕ) (ends : Endpoints) (seq ack flags : ℕ) («data» : Slice) → Run Counted
 «make_tcp_frame» counter ends seq ack flags «data» =
-    let opts : List ℕ = cond (not (eqb (bitAnd flags «SYN») 0)) (0x02 ∷ 0x04 ∷ 0x05 ∷ 0xb4 ∷ 0x01 ∷ 0x03 ∷ 0x03 ∷ 0x07 ∷ []) [] in
+    let opts : List ℕ = cond (not (eqb (bitAnd flags SYN) 0)) (0x02 ∷ 0x04 ∷ 0x05 ∷ 0xb4 ∷ 0x01 ∷ 0x03 ∷ 0x03 ∷ 0x07 ∷ []) [] in
     let «tcp_hlen» = 20 + length opts in
     let «tcp_len» = «tcp_hlen» + lenOf «data» in
     let tcp = zeros «tcp_len» in
@@ -173,6 +173,6 @@ unfoldable pub «make_tcp_frame» : (counter : ℕ) (ends : Endpoints) (seq ack 
     asU16 «tcp_len» ▹ λ short.
     copy pseudo 10 12 (u16ToBe short) ▹ λ pseudo.
     copyFrom pseudo 12 tcp ▹ λ pseudo.
-    «checksum» (whole pseudo) ▹ λ csum.
+    checksum (whole pseudo) ▹ λ csum.
     copy tcp 16 18 (u16ToBe csum) ▹ λ tcp.
     «make_ip_frame» counter (ends .«dst_mac») (ends .«src_ip») (ends .«dst_ip») «IP_PROTO_TCP» (whole tcp)

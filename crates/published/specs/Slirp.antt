@@ -6,7 +6,7 @@ use mathlib.Core.List.{List, [], _++_}
 use lib.Dec.{ltb, eqb}
 use lib.ListN.{length, take, drop}
 use Rattle.published.specs.Rust.{Run, gives, _▹_, Slice, whole, lenOf, index, range, rangeFrom, array, zeros, store, copy, copyFrom, sameArray, u16ToBe}
-use Rattle.published.specs.Frames.{«ETHERTYPE_ARP», «ETHERTYPE_IP», «GW_IP», «HOST_MAC», «IP_PROTO_ICMP», «IP_PROTO_TCP», «IP_PROTO_UDP», «checksum», «eth_src», «eth_type», «ip_dst», «ip_payload», «ip_proto», «ip_src», «make_ip_frame», «u16be»}
+use Rattle.published.specs.Frames.{«ETHERTYPE_ARP», «ETHERTYPE_IP», «GW_IP», «HOST_MAC», «IP_PROTO_ICMP», «IP_PROTO_TCP», «IP_PROTO_UDP», checksum, «eth_src», «eth_type», «ip_dst», «ip_payload», «ip_proto», «ip_src», «make_ip_frame», u16be}
 use Rattle.published.specs.Backend.{«handle_tcp», SlirpBackend, pushed, calling}
 use Rattle.published.specs.Udp.{«handle_udp»}
 
@@ -19,7 +19,7 @@ unfoldable pub «handle_arp» : (self : SlirpBackend) (frame : Slice) → Run Sl
     cond (ltb (lenOf frame) (14 + 28))
     (gives self)
     (rangeFrom frame 14 ▹ λ arp.
-    «u16be» arp 6 ▹ λ operation.
+    u16be arp 6 ▹ λ operation.
     cond (not (eqb operation 1))
     (gives self)
     (range arp 24 28 ▹ λ bytes.
@@ -67,7 +67,7 @@ unfoldable pub «handle_icmp» : (self : SlirpBackend) (frame : Slice) → Run S
     range payload 4 8 ▹ λ middle.
     copy icmp 4 8 (middle .bytes) ▹ λ icmp.
     copyFrom icmp 8 («data» .bytes) ▹ λ icmp.
-    «checksum» (whole icmp) ▹ λ csum.
+    checksum (whole icmp) ▹ λ csum.
     copy icmp 2 4 (u16ToBe csum) ▹ λ icmp.
     «make_ip_frame» (self .counter) «src_mac» «GW_IP» «src_ip» «IP_PROTO_ICMP» (whole icmp) ▹ λ made.
     gives (pushed (made .frame) (made .counter) self))))

@@ -3,7 +3,7 @@ use Prim.Native.Nat.{ℕ, min}
 use mathlib.Core.Bool.{_&&_, cond}
 use lib.Dec.{ltb, eqb}
 use Rattle.published.specs.Rust.{Run, gives, _▹_, Slice, lenOf, range, array, sameArray}
-use Rattle.published.specs.Frames.{«GW_IP», «eth_src», «ip_dst», «ip_payload», «ip_src», «u16be»}
+use Rattle.published.specs.Frames.{«GW_IP», «eth_src», «ip_dst», «ip_payload», «ip_src», u16be}
 use Rattle.published.specs.Backend.{«handle_dns», «relay_datagram», SlirpBackend, calling}
 use Rattle.published.specs.Dhcp.{«handle_dhcp»}
 
@@ -21,9 +21,9 @@ unfoldable pub «handle_udp» : (self : SlirpBackend) (frame : Slice) → Run Sl
     «ip_payload» frame ▹ λ payload.
     cond (ltb (lenOf payload) 8)
     (gives self)
-    («u16be» payload 0 ▹ λ «src_port».
-    «u16be» payload 2 ▹ λ «dst_port».
-    «u16be» payload 4 ▹ λ «udp_len».
+    (u16be payload 0 ▹ λ «src_port».
+    u16be payload 2 ▹ λ «dst_port».
+    u16be payload 4 ▹ λ «udp_len».
     cond (ltb «udp_len» 8)
     (gives self)
     («ip_dst» frame ▹ λ «dst_ip».
