@@ -15,8 +15,8 @@ use Rattle.frames.specs.Rfc768.{datagram}
 use Rattle.published.specs.Rust.{Run, gives, cuts, _▹_, Slice, whole, lenOf, zeros, store, copy, copyFrom, u16ToBe, wrappingAddU16}
 use Rattle.published.specs.Frames.{Counted, «HOST_MAC», «ETHERTYPE_IP», «make_ip_frame», «make_udp_payload»}
 use Rattle.sums.specs.Rfc1071.{checksum}
-use Rattle.equal.specs.Bytes.{Bytes}
-use Rattle.equal.proofs.Operations.{copy-zeros, copy-end, bytes-append, be16-bytes}
+use Rattle.equal.specs.Types.{Bytes}
+use Rattle.equal.proofs.Operations.{copy-zeros, copy-end, copy-rest, bytes-append, be16-bytes}
 use Rattle.equal.proofs.Sum.{rust-checksum}
 
 -- the end of `make_ip_frame`: the header in its frame
@@ -39,7 +39,7 @@ frame-given mac ip payload counter six twenty =
       copy-zeros (bytesAt mac 0 6) «HOST_MAC» 0 (22 + lenOf payload) (28 + lenOf payload) 6 12 (omega arith) refl refl,
       copy-zeros (bytesAt mac 0 6 ++ «HOST_MAC») (u16ToBe «ETHERTYPE_IP») 0 (20 + lenOf payload) (22 + lenOf payload) 12 14 (omega arith) refl refl,
       copy-zeros (ethernet (bytesAt mac 0 6) «HOST_MAC» «ETHERTYPE_IP») (bytesAt ip 0 20) 0 (lenOf payload) (20 + lenOf payload) 14 34 (omega arith) refl refl,
-      copy-end (ethernet (bytesAt mac 0 6) «HOST_MAC» «ETHERTYPE_IP» ++ bytesAt ip 0 20) (payload .bytes) 0 (lenOf payload) 34 (omega arith) refl,
+      copy-rest (ethernet (bytesAt mac 0 6) «HOST_MAC» «ETHERTYPE_IP» ++ bytesAt ip 0 20) (payload .bytes) (lenOf payload) 34 refl refl,
     ))
 
 -- the header's bytes, with no checksum yet

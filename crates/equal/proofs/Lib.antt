@@ -1,3 +1,4 @@
 pub mod Operations
 pub mod Sum
 pub mod Builders
+pub mod TcpBuilder

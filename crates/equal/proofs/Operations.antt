@@ -11,8 +11,12 @@ use lib.Seq.{take-at, drop-at}
 use lib.Dec.{ltb, leb}
 use Rattle.fields.specs.Bytes.{be16, bytesAt}
 use Rattle.frames.proofs.Lists.{part-bytes}
-use Rattle.equal.specs.Bytes.{Bytes}
-use Rattle.published.specs.Rust.{Run, gives, panics, Slice, lenOf, index, range, array, zeros, store, copy}
+use Rattle.equal.specs.Types.{Bytes}
+use Rattle.published.specs.Rust.{Run, gives, panics, _▹_, Slice, lenOf, index, range, array, zeros, store, copy}
+
+-- the same run, and then the same with every value that it can give
+pub same-next : {A B : Type 0} (m : Run A) (f g : A → Run B) → ((value : A) → f value ≡ g value) → (m ▹ f) ≡ (m ▹ g)
+same-next m f g h = λ i. m ▹ λ value. h value i
 
 module _ (s : Slice) where
   pub index-in : (i : ℕ) → i < lenOf s → index s i ≡ gives (getD (s .bytes) i 0)
@@ -71,6 +75,10 @@ copy-end front s gap n a e f =
     copy-zeros front s gap 0 n a (length (front ++ zeros n)) (omega arith) f (omega (arith, length-append front (zeros n), length-replicate {A = ℕ} n 0))
     ∙ ap gives (append-nil (front ++ zeros gap ++ s))
 
+-- the same with no zeros left before it
+pub copy-rest : (front s : List ℕ) (n a : ℕ) → n ≡ length s → length front ≡ a → copy (front ++ zeros n) a (length (front ++ zeros n)) s ≡ gives (front ++ s)
+copy-rest front s n a e f = copy-end front s 0 n a (omega arith) (omega arith) ∙ ap (λ (v : List ℕ). gives (v ++ s)) (append-nil front)
+
 -- a byte stored is a copy of one byte
 pub store-copies : (v : List ℕ) (i x : ℕ) → store v i x ≡ copy v i (i + 1) (x ∷ [])
 unfolding store copy
@@ -80,6 +88,11 @@ store-copies v i x = rw (le-leb i (i + 1) (omega arith), eq-eqb 1 (i + 1 - i) (o
         ≡ cond (leb (i + 1) (length v) && true) (gives (take i v ++ (x ∷ []) ++ drop (i + 1) v)) panics
     go true e = rw (e, le-leb (i + 1) (length v) (omega (arith, ltb-true i (length v) e)))
     go false e = rw (e, lt-leb (i + 1) (length v) (omega (arith, ltb-false i (length v) e)))
+
+-- a byte stored into zeros that end the vector
+pub store-zeros : (front : List ℕ) (x gap k n i : ℕ) → n ≡ gap + 1 + k → length front + gap ≡ i
+    → store (front ++ zeros n) i x ≡ gives (front ++ zeros gap ++ (x ∷ []) ++ zeros k)
+store-zeros front x gap k n i e f = store-copies (front ++ zeros n) i x ∙ copy-zeros front (x ∷ []) gap k n i (i + 1) e f refl
 
 pub bytes-append : (s t : List ℕ) → Bytes s → Bytes t → Bytes (s ++ t)
 bytes-append [] t p q = q

@@ -13,7 +13,7 @@ use Rattle.published.specs.Rust.{Run, gives, _▹_, Slice, whole, lenOf, index}
 use Rattle.published.specs.Frames.{sumFrom, folded, checksum as rustChecksum}
 use Rattle.sums.specs.Rfc1071.{words, sum, total, fold, checksum}
 use Rattle.sums.proofs.Laws.{fold-pos, fold-zero, fold-small, two-folds, total-step, total-last, total-none}
-use Rattle.equal.specs.Bytes.{Bytes}
+use Rattle.equal.specs.Types.{Bytes}
 use Rattle.equal.proofs.Operations.{index-in}
 
 -- the loop over the words: what is summed so far and what is left, modulo 2^32
