@@ -2,3 +2,4 @@ pub mod Operations
 pub mod Sum
 pub mod Builders
 pub mod TcpBuilder
+pub mod Lease

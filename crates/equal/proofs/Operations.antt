@@ -1,5 +1,5 @@
 -- The Rust's operations, by whether what they ask for is there.
-use Prim.Native.Nat.{ℕ, _+_, _-_, _≤_, _<_}
+use Prim.Native.Nat.{ℕ, _+_, _-_, _/_, _%_, _≤_, _<_}
 use mathlib.Core.Path.{_≡_, refl, ap, sym, _∙_}
 use mathlib.Core.Bool.{Bool, true, false, _&&_, cond}
 use mathlib.Core.List.{List, [], _∷_, _++_, append-assoc, append-nil}
@@ -9,10 +9,10 @@ use native.Mathlib.Nat.{add-assoc}
 use lib.ListN.{length, getD, take, drop, replicate, length-append, length-replicate, replicate-append-replicate}
 use lib.Seq.{take-at, drop-at}
 use lib.Dec.{ltb, leb}
-use Rattle.fields.specs.Bytes.{be16, bytesAt}
+use Rattle.fields.specs.Bytes.{be16, be32, bytesAt}
 use Rattle.frames.proofs.Lists.{part-bytes}
 use Rattle.equal.specs.Types.{Bytes}
-use Rattle.published.specs.Rust.{Run, gives, panics, _▹_, Slice, lenOf, index, range, array, zeros, store, copy}
+use Rattle.published.specs.Rust.{Run, gives, panics, _▹_, Slice, lenOf, index, range, array, zeros, store, copy, u32ToBe}
 
 -- the same run, and then the same with every value that it can give
 pub same-next : {A B : Type 0} (m : Run A) (f g : A → Run B) → ((value : A) → f value ≡ g value) → (m ▹ f) ≡ (m ▹ g)
@@ -100,3 +100,19 @@ bytes-append (b ∷ s) t p q = (p .0, bytes-append s t (p .1) q)
 
 pub be16-bytes : (n : ℕ) → n < 65536 → Bytes (be16 n)
 be16-bytes n h = (omega arith, (omega arith, tt))
+
+-- four bytes of a 32-bit number, in the Rust's words and in ours
+pub be32-bytes : (x : ℕ) → u32ToBe x ≡ be32 x
+be32-bytes x = λ i. first i ∷ second i ∷ third i ∷ fourth i ∷ []
+  where
+    first : x / 16777216 ≡ x / 65536 / 256
+    first = omega arith
+
+    second : x / 65536 % 256 ≡ x / 65536 % 256
+    second = refl
+
+    third : x / 256 % 256 ≡ x % 65536 / 256
+    third = omega arith
+
+    fourth : x % 256 ≡ x % 65536 % 256
+    fourth = omega arith

@@ -20,25 +20,9 @@ use Rattle.tcp.specs.declared.Endpoints.{Endpoints}
 use Rattle.sums.specs.Rfc1071.{checksum}
 use Rattle.equal.specs.Alike.{theEnds}
 use Rattle.equal.specs.Types.{Bytes, EndsTyped}
-use Rattle.equal.proofs.Operations.{same-next, copy-over, copy-zeros, copy-rest, store-zeros, bytes-append, be16-bytes}
+use Rattle.equal.proofs.Operations.{same-next, copy-over, copy-zeros, copy-rest, store-zeros, bytes-append, be16-bytes, be32-bytes}
 use Rattle.equal.proofs.Sum.{rust-checksum, rust-sum}
 use Rattle.equal.proofs.Builders.{ip-frame-cut, ip-frame-given}
-
--- four bytes of a 32-bit number, in the Rust's words and in ours
-be32-bytes : (x : ℕ) → u32ToBe x ≡ be32 x
-be32-bytes x = λ i. first i ∷ second i ∷ third i ∷ fourth i ∷ []
-  where
-    first : x / 16777216 ≡ x / 65536 / 256
-    first = omega arith
-
-    second : x / 65536 % 256 ≡ x / 65536 % 256
-    second = refl
-
-    third : x / 256 % 256 ≡ x % 65536 / 256
-    third = omega arith
-
-    fourth : x % 256 ≡ x % 65536 % 256
-    fourth = omega arith
 
 mod-small : (x : ℕ) → x < 256 → x % 256 ≡ x
 mod-small x h = omega arith
