@@ -1,5 +1,5 @@
 -- The Rust's operations, by whether what they ask for is there.
-use Prim.Native.Nat.{ℕ, _+_, _-_, _/_, _%_, _≤_, _<_}
+use Prim.Native.Nat.{ℕ, zero, suc, _+_, _-_, _/_, _%_, _≤_, _<_}
 use mathlib.Core.Path.{_≡_, refl, ap, sym, _∙_}
 use mathlib.Core.Bool.{Bool, true, false, _&&_, cond}
 use mathlib.Core.List.{List, [], _∷_, _++_, append-assoc, append-nil}
@@ -94,6 +94,11 @@ pub store-zeros : (front : List ℕ) (x gap k n i : ℕ) → n ≡ gap + 1 + k �
     → store (front ++ zeros n) i x ≡ gives (front ++ zeros gap ++ (x ∷ []) ++ zeros k)
 store-zeros front x gap k n i e f = store-copies (front ++ zeros n) i x ∙ copy-zeros front (x ∷ []) gap k n i (i + 1) e f refl
 
+byte-at : (s : List ℕ) (at : ℕ) → Bytes s → getD s at 0 < 256
+byte-at [] at b = omega arith
+byte-at (x ∷ s) zero b = b .0
+byte-at (x ∷ s) (suc at) b = byte-at s at (b .1)
+
 pub bytes-append : (s t : List ℕ) → Bytes s → Bytes t → Bytes (s ++ t)
 bytes-append [] t p q = q
 bytes-append (b ∷ s) t p q = (p .0, bytes-append s t (p .1) q)
@@ -116,3 +121,12 @@ be32-bytes x = λ i. first i ∷ second i ∷ third i ∷ fourth i ∷ []
 
     fourth : x % 256 ≡ x % 65536 % 256
     fourth = omega arith
+
+pub bytes-drop : (n : ℕ) (s : List ℕ) → Bytes s → Bytes (drop n s)
+bytes-drop zero s b = b
+bytes-drop (suc n) [] b = tt
+bytes-drop (suc n) (x ∷ s) b = bytes-drop n s (b .1)
+
+pub bytes-at : (s : List ℕ) (at n : ℕ) → Bytes s → Bytes (bytesAt s at n)
+bytes-at s at zero b = tt
+bytes-at s at (suc n) b = (byte-at s at b, bytes-at s (suc at) n b)

@@ -1,0 +1,142 @@
+-- The Rust on a guest frame, test by test beside document 01's order of tests: what its run comes to, for each decision.
+use Prim.Native.Nat.{ℕ, _+_, _-_, _%_, _≤_, _<_, min}
+use mathlib.Core.Path.{_≡_, refl, ap, ap₂, sym, subst, _∙_}
+use mathlib.Core.Bool.{Bool, true, false, not, _&&_, cond}
+use mathlib.Core.Logic.{_⊎_, inl, inr}
+use mathlib.Core.List.{List, [], _∷_, _++_}
+use native.Mathlib.Omega.{arith}
+use borrow.Author.Tests.{ltb-true, ltb-false, lt-ltb, le-ltb, eqb-true, eq-eqb, ne-eqb, not-false, not-true}
+use lib.Dec.{ltb, eqb}
+use lib.ListN.{length, getD, take, drop, length-drop}
+use Rattle.fields.specs.Bytes.{bytesAt}
+use Rattle.fields.specs.Rfc768.{sourcePort, targetPort, lengthField}
+use Rattle.fields.specs.Rfc791.{protocolOf, sourceOf, targetOf}
+use Rattle.fields.specs.Rfc792.{messageType}
+use Rattle.fields.specs.Rfc826 as Arp
+use Rattle.fields.specs.Rfc894.{body, typeOf, sourceMac}
+use Rattle.fields.specs.Rfc2131 as Dhcp
+use Rattle.frames.specs.Network.{network}
+use Rattle.frames.specs.Pick.{pick}
+use Rattle.frames.specs.declared.answer.Guest.{Guest}
+use Rattle.frames.proofs.Lists.{from-on}
+use Rattle.published.specs.Rust.{Run, gives, panics, cuts, _▹_, Slice, whole, lenOf, index, range, array, store, copy, sameArray}
+use Rattle.published.specs.Backend.{«handle_dns», «relay_datagram», «handle_tcp», SlirpBackend, withXid, pushed, calling}
+use Rattle.published.specs.Slirp.{«handle_arp», «handle_icmp», «handle_ip», send}
+use Rattle.published.specs.Udp.{«handle_udp»}
+use Rattle.published.specs.Dhcp.{«handle_dhcp», «send_dhcp_reply»}
+use Rattle.rules.specs.Rfc792.{echoFrame}
+use Rattle.rules.specs.Rfc826.{arpReply, replyTo}
+use Rattle.rules.specs.Rfc2131.{dhcpFrame}
+use Rattle.rules.specs.Rules.{payloadAt, payload, dataAt, dataLength, datagramData, decision, arpDecision, ipDecision, icmpDecision, udpDecision, dhcpDecision, typeDecision}
+use Rattle.rules.specs.Same.{same}
+use Rattle.rules.specs.Seen.{Carries}
+use Rattle.rules.specs.declared.decision.Decision.{Decision}
+use Rattle.rules.specs.declared.decision.Decision.the-variants.{Drop, DropNoting, ArpReply, EchoReply, DhcpReply, Dns, Relay, Tcp, TooLong, CutType}
+use Rattle.rules.proofs.Same.{same-equal}
+use Rattle.equal.specs.Alike.{backendOf}
+use Rattle.equal.specs.Types.{Bytes, GuestTyped}
+use Rattle.equal.specs.Where.{HeaderPast}
+use Rattle.equal.proofs.Operations.{index-in, range-in, array-of, bytes-drop}
+use Rattle.equal.proofs.Ping.{answered, ping-cut, ping-answered}
+use Rattle.equal.proofs.Fields.{range-at, u16be-in, eth-src, eth-type, ip-proto, ip-src, ip-dst, payload-there, payload-past}
+
+-- what a run comes to, by the decision
+unfoldable pub Ran : Guest → (frame : List ℕ) → Run SlirpBackend → Decision → Type 0
+Ran guest frame r Drop = (r ≡ gives (backendOf guest)) ⊎ (HeaderPast frame × (r ≡ panics))
+Ran guest frame r (DropNoting xid) = r ≡ gives (withXid xid (backendOf guest))
+Ran guest frame r ArpReply = r ≡ gives (pushed (arpReply network frame) (guest .id) (backendOf guest))
+Ran guest frame r (EchoReply start) = r ≡ gives (pushed (echoFrame network guest frame start) ((guest .id + 1) % 65536) (backendOf guest))
+Ran guest frame r (DhcpReply xid type) = r ≡ gives (pushed (dhcpFrame network guest frame xid type) ((guest .id + 1) % 65536) (withXid xid (backendOf guest)))
+Ran guest frame r (Dns start len) =
+    r ≡ gives (calling («handle_dns» (record { start = start; bytes = take len (drop start frame) }) (sourceMac frame) (sourceOf (body frame)) (sourcePort (payload frame))) (backendOf guest))
+Ran guest frame r (Relay start len) =
+    r ≡ gives (calling («relay_datagram» (sourceMac frame) (sourceOf (body frame)) (sourcePort (payload frame)) (targetOf (body frame)) (targetPort (payload frame)) (record { start = start; bytes = take len (drop start frame) })) (backendOf guest))
+Ran guest frame r (Tcp len) = (len ≡ length frame) × (r ≡ gives (calling («handle_tcp» (whole frame)) (backendOf guest)))
+Ran guest frame r (TooLong len) = r ≡ cuts
+Ran guest frame r (CutType place) = r ≡ panics
+
+-- two choices by one test
+both : (P : Run SlirpBackend → Decision → Type 0) (t : Bool) (r r′ : Run SlirpBackend) (d d′ : Decision) → (t ≡ true → P r d) → (t ≡ false → P r′ d′) → P (cond t r r′) (pick t d d′)
+both P true r r′ d d′ f g = f refl
+both P false r r′ d d′ f g = g refl
+
+either : (P : Decision → Type 0) (t : Bool) (d d′ : Decision) → (t ≡ true → P d) → (t ≡ false → P d′) → P (pick t d d′)
+either P true d d′ f g = f refl
+either P false d d′ f g = g refl
+
+same-array : (s t : List ℕ) → sameArray s t ≡ same s t
+unfolding sameArray
+same-array [] [] = refl
+same-array [] (b ∷ t) = refl
+same-array (a ∷ s) [] = refl
+same-array (a ∷ s) (b ∷ t) = ap (λ (x : Bool). eqb a b && x) (same-array s t)
+
+module _ (guest : Guest) (frame : List ℕ) where
+  dropped : Ran guest frame (gives (backendOf guest)) Drop
+  unfolding Ran
+  dropped = inl refl
+
+  arp-replied : Ran guest frame
+      (gives (pushed (replyTo (network .gateway) (Arp.senderMac (body frame)) (Arp.senderAddress (body frame))) (guest .id) (backendOf guest))) ArpReply
+  unfolding Ran
+  arp-replied = refl
+
+  arp-ran : Ran guest frame («handle_arp» (backendOf guest) (whole frame)) (arpDecision network frame)
+  unfolding «handle_arp» arpDecision copy store replyTo
+  arp-ran =
+      both (Ran guest frame) (ltb (length frame) 42) _ _ _ _ (λ e. dropped) (λ e.
+      let long = ltb-false (length frame) 42 e in
+      let arp : Slice = record { start = 14; bytes = body frame } in
+      let behind : length (body frame) ≡ length frame - 14 = length-drop 14 frame in
+      rw (range-in (whole frame) 14 (length frame) (omega (arith, long)) (omega arith), from-on 14 frame, u16be-in arp 6 (omega (arith, long, behind)))
+      (both (Ran guest frame) (not (eqb (Arp.operation (body frame)) 1)) _ _ _ _ (λ f. dropped) (λ f.
+      rw (
+        range-at arp 24 4 (omega (arith, long, behind)),
+        array-of (record { start = 38; bytes = Arp.soughtAddress (body frame) }) 4 refl,
+        same-array (Arp.soughtAddress (body frame)) (network .gateway),
+      )
+      (both (Ran guest frame) (not (same (Arp.soughtAddress (body frame)) (network .gateway))) _ _ _ _ (λ g. dropped) (λ g.
+      rw (
+        range-at arp 8 6 (omega (arith, long, behind)),
+        array-of (record { start = 22; bytes = Arp.senderMac (body frame) }) 6 refl,
+        range-at arp 14 4 (omega (arith, long, behind)),
+        array-of (record { start = 28; bytes = Arp.senderAddress (body frame) }) 4 refl,
+      )
+      arp-replied)))))
+
+module _ (guest : Guest) (frame : List ℕ) (typed : GuestTyped guest) (bytes : Bytes frame) where
+  panicked : HeaderPast frame → Ran guest frame panics Drop
+  unfolding Ran
+  panicked h = inr (h, refl)
+
+  echoed : (r : Run SlirpBackend) → r ≡ gives (pushed (echoFrame network guest frame (payloadAt frame)) ((guest .id + 1) % 65536) (backendOf guest))
+      → Ran guest frame r (EchoReply (payloadAt frame))
+  unfolding Ran
+  echoed r e = e
+
+  cut-short : (r : Run SlirpBackend) (len : ℕ) → r ≡ cuts → Ran guest frame r (TooLong len)
+  unfolding Ran
+  cut-short r len e = e
+
+  icmp-ran : Carries frame 1 → Ran guest frame («handle_icmp» (backendOf guest) (whole frame)) (icmpDecision network frame)
+  unfolding «handle_icmp» icmpDecision
+  icmp-ran icmp =
+      let long = icmp .long in
+      rw (ip-dst frame long, same-array (targetOf (body frame)) (network .gateway))
+      (both (Ran guest frame) (not (same (targetOf (body frame)) (network .gateway))) _ _ _ _ (λ e. dropped guest frame) (λ e.
+      either (Ran guest frame _) (ltb (length frame) (payloadAt frame)) _ _
+      (λ f.
+      let past = ltb-true (length frame) (payloadAt frame) f in
+      rw (payload-past frame (omega (arith, long)) past) (panicked (record { read = inl (icmp, same-equal _ _ (not-false _ e)); past = past })))
+      (λ f.
+      let there = ltb-false (length frame) (payloadAt frame) f in
+      let payload′ : Slice = record { start = payloadAt frame; bytes = payload frame } in
+      rw (payload-there frame (omega (arith, long)) there)
+      (both (Ran guest frame) (ltb (length (payload frame)) 8) _ _ _ _ (λ g. dropped guest frame) (λ g.
+      let eight = ltb-false (length (payload frame)) 8 g in
+      rw (index-in payload′ 0 (omega (arith, eight)))
+      (both (Ran guest frame) (not (eqb (messageType (payload frame)) 8)) _ _ _ _ (λ k. dropped guest frame) (λ k.
+      either (Ran guest frame (answered (backendOf guest) frame payload′)) (ltb 65515 (length (payload frame))) _ _
+      (λ over. cut-short _ _ (ping-cut (backendOf guest) frame payload′ long eight (ltb-true 65515 (length (payload frame)) over)))
+      (λ within.
+      echoed _ (ping-answered (backendOf guest) frame payload′ long eight (typed .id) bytes (bytes-drop (payloadAt frame) frame bytes) (ltb-false 65515 (length (payload frame)) within))))))))))
