@@ -7,19 +7,32 @@ use native.Mathlib.Omega.{arith}
 use borrow.Author.Tests.{lt-ltb, le-ltb, ltb-true, ltb-false, le-leb, lt-leb, leb-true, leb-false, eq-eqb, ne-eqb, eqb-true, eqb-false}
 use lib.Dec.{ltb, leb, eqb}
 use lib.ListN.{length, getD, drop}
-use Rattle.fields.specs.Bytes.{u8At, bytesAt}
+use Rattle.fields.specs.Bytes.{be16, u8At, bytesAt}
 use Rattle.dhcp.specs.Rfc2131.{reply}
-use Rattle.frames.specs.Network.{network}
+use Rattle.dhcp.proofs.ReadBack.{FourBytes, reply-reads-back}
+use Rattle.fields.specs.Rfc894.{sourceMac}
+use Rattle.frames.specs.Network.{network, gatewayMac}
+use Rattle.frames.specs.Rfc768.{datagram}
+use Rattle.frames.specs.Rfc791.{header, ipFrame}
+use Rattle.frames.specs.declared.answer.Guest.{Guest}
+use Rattle.frames.proofs.Lengths.{length-datagram}
+use Rattle.rules.specs.Rfc2131.{dhcpFrame}
 use Rattle.frames.proofs.Lists.{all-bytes}
 use Rattle.options.specs.Rfc2132.{option, Walked, typed, cut, decides, walkFrom, walk}
 use Rattle.options.proofs.Places.{walkAt, past-end, at-255, at-0, at-last, at-other, at-type, at-cut}
 use Rattle.rules.proofs.Same.{both-left, both-right}
-use Rattle.published.specs.Rust.{Run, gives, panics, _▹_, Slice, lenOf, index, zeros, store, copy, u32ToBe}
-use Rattle.published.specs.Dhcp.{scan, «message_type», «build_reply»}
-use Rattle.equal.proofs.Operations.{index-in, index-past, be32-bytes}
+use Rattle.published.specs.Rust.{Run, gives, panics, _▹_, Slice, whole, lenOf, index, zeros, store, copy, u32ToBe}
+use Rattle.published.specs.Frames.{«BCAST_MAC», «BCAST_IP», «GW_IP»}
+use Rattle.published.specs.Backend.{withXid, pushed}
+use Rattle.published.specs.Dhcp.{scan, «message_type», «build_reply», «send_dhcp_reply»}
+use Rattle.equal.proofs.Operations.{index-in, index-past, array-of, copy-over, be32-bytes}
+use Rattle.equal.proofs.Builders.{ip-frame-given, udp-payload-given}
+use Rattle.equal.proofs.Fields.{eth-src}
+use Rattle.equal.specs.Alike.{backendOf}
+use Rattle.equal.specs.Types.{GuestTyped}
 
 -- the walk, as the Rust comes to it
-abbrev ran : Walked → Run ℕ
+abbrev pub ran : Walked → Run ℕ
 ran (typed type) = gives type
 ran (cut place) = panics
 
@@ -104,3 +117,25 @@ built mac xid type =
 pub build-reply-given : (xid type : ℕ) (mac : List ℕ) → length mac ≡ 6 → «build_reply» xid mac type ≡ gives (reply network mac xid type)
 unfolding «build_reply» store copy reply built
 build-reply-given xid type mac six = rw (all-bytes mac 6 six) (ap (λ (x : List ℕ). gives (built (bytesAt mac 0 6) x type)) (be32-bytes xid))
+
+four-bytes : FourBytes network
+four-bytes = record { gateway = refl; guest = refl; mask = refl }
+
+-- The frame of a reply: built for the broadcast MAC, then sent to the frame's own source.
+module _ (guest : Guest) (frame : List ℕ) (typed : GuestTyped guest) (long : 34 ≤ length frame) (xid type : ℕ) where
+  pub lease-sent : «send_dhcp_reply» (withXid xid (backendOf guest)) (whole frame) xid type
+      ≡ gives (pushed (dhcpFrame network guest frame xid type) ((guest .id + 1) % 65536) (withXid xid (backendOf guest)))
+  unfolding «send_dhcp_reply» dhcpFrame ipFrame
+  lease-sent =
+      let message = reply network (guest .mac) xid type in
+      let whole-datagram = datagram 68 67 message in
+      let size : length message ≡ 300 = reply-reads-back network (guest .mac) xid type four-bytes (typed .mac .long) .long in
+      rw (
+        eth-src frame (omega arith),
+        array-of (record { start = 6; bytes = sourceMac frame }) 6 refl,
+        build-reply-given xid type (guest .mac) (typed .mac .long),
+        udp-payload-given 68 67 (whole message) (omega (arith, size)),
+        ip-frame-given (guest .id) 17 «BCAST_MAC» «GW_IP» «BCAST_IP» (whole whole-datagram) refl refl refl (typed .id) (omega arith)
+        (omega arith, (omega arith, (omega arith, (omega arith, tt)))) (omega arith, (omega arith, (omega arith, (omega arith, tt)))) (omega (arith, size, length-datagram 68 67 message)),
+        copy-over [] «BCAST_MAC» (gatewayMac ++ be16 0x0800 ++ header (20 + length whole-datagram) (guest .id) 17 «GW_IP» «BCAST_IP» ++ whole-datagram) (sourceMac frame) 0 6 refl refl refl,
+      )

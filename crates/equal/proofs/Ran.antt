@@ -1,14 +1,17 @@
 -- The Rust on a guest frame, test by test beside document 01's order of tests: what its run comes to, for each decision.
-use Prim.Native.Nat.{ℕ, _+_, _-_, _%_, _≤_, _<_, min}
+use Prim.Native.Nat.{ℕ, _+_, _*_, _-_, _%_, _≤_, _<_, min}
 use mathlib.Core.Path.{_≡_, refl, ap, ap₂, sym, subst, _∙_}
 use mathlib.Core.Bool.{Bool, true, false, not, _&&_, cond}
 use mathlib.Core.Logic.{_⊎_, inl, inr}
 use mathlib.Core.List.{List, [], _∷_, _++_}
 use native.Mathlib.Omega.{arith}
+use native.Mathlib.Nat.{add-assoc}
 use borrow.Author.Tests.{ltb-true, ltb-false, lt-ltb, le-ltb, eqb-true, eq-eqb, ne-eqb, not-false, not-true}
 use lib.Dec.{ltb, eqb}
 use lib.ListN.{length, getD, take, drop, length-drop}
-use Rattle.fields.specs.Bytes.{bytesAt}
+use lib.Seq.{drop-drop}
+use Rattle.fields.specs.Bytes.{u8At, u32At, bytesAt}
+use Rattle.fields.proofs.Reading.{four-bytes}
 use Rattle.fields.specs.Rfc768.{sourcePort, targetPort, lengthField}
 use Rattle.fields.specs.Rfc791.{protocolOf, sourceOf, targetOf}
 use Rattle.fields.specs.Rfc792.{messageType}
@@ -19,7 +22,8 @@ use Rattle.frames.specs.Network.{network}
 use Rattle.frames.specs.Pick.{pick}
 use Rattle.frames.specs.declared.answer.Guest.{Guest}
 use Rattle.frames.proofs.Lists.{from-on}
-use Rattle.published.specs.Rust.{Run, gives, panics, cuts, _▹_, Slice, whole, lenOf, index, range, array, store, copy, sameArray}
+use Rattle.options.specs.Rfc2132.{Walked, typed, cut, walk}
+use Rattle.published.specs.Rust.{Run, gives, panics, cuts, _▹_, Slice, whole, lenOf, index, range, array, store, copy, sameArray, u32FromBe}
 use Rattle.published.specs.Backend.{«handle_dns», «relay_datagram», «handle_tcp», SlirpBackend, withXid, pushed, calling}
 use Rattle.published.specs.Slirp.{«handle_arp», «handle_icmp», «handle_ip», send}
 use Rattle.published.specs.Udp.{«handle_udp»}
@@ -27,7 +31,7 @@ use Rattle.published.specs.Dhcp.{«handle_dhcp», «send_dhcp_reply»}
 use Rattle.rules.specs.Rfc792.{echoFrame}
 use Rattle.rules.specs.Rfc826.{arpReply, replyTo}
 use Rattle.rules.specs.Rfc2131.{dhcpFrame}
-use Rattle.rules.specs.Rules.{payloadAt, payload, dataAt, dataLength, datagramData, decision, arpDecision, ipDecision, icmpDecision, udpDecision, dhcpDecision, typeDecision}
+use Rattle.rules.specs.Rules.{payloadAt, payload, dataEnd, dataAt, dataLength, datagramData, decision, arpDecision, ipDecision, icmpDecision, udpDecision, dhcpDecision, typeDecision}
 use Rattle.rules.specs.Same.{same}
 use Rattle.rules.specs.Seen.{Carries}
 use Rattle.rules.specs.declared.decision.Decision.{Decision}
@@ -37,6 +41,7 @@ use Rattle.equal.specs.Alike.{backendOf}
 use Rattle.equal.specs.Types.{Bytes, GuestTyped}
 use Rattle.equal.specs.Where.{HeaderPast}
 use Rattle.equal.proofs.Operations.{index-in, range-in, array-of, bytes-drop}
+use Rattle.equal.proofs.Lease.{ran, message-type-walks, lease-sent}
 use Rattle.equal.proofs.Ping.{answered, ping-cut, ping-answered}
 use Rattle.equal.proofs.Fields.{range-at, u16be-in, eth-src, eth-type, ip-proto, ip-src, ip-dst, payload-there, payload-past}
 
@@ -64,12 +69,32 @@ either : (P : Decision → Type 0) (t : Bool) (d d′ : Decision) → (t ≡ tru
 either P true d d′ f g = f refl
 either P false d d′ f g = g refl
 
+from-be : (s : List ℕ) (at : ℕ) → u32FromBe (bytesAt s at 4) ≡ u32At s at
+from-be s at = ap u32FromBe (four-bytes s at) ∙ sums
+  where
+    sums : u8At s at * 16777216 + u8At s (at + 1) * 65536 + u8At s (at + 2) * 256 + u8At s (at + 3) ≡ u32At s at
+    sums = rw (add-assoc at 2 1) (omega arith)
+
 same-array : (s t : List ℕ) → sameArray s t ≡ same s t
 unfolding sameArray
 same-array [] [] = refl
 same-array [] (b ∷ t) = refl
 same-array (a ∷ s) [] = refl
 same-array (a ∷ s) (b ∷ t) = ap (λ (x : Bool). eqb a b && x) (same-array s t)
+
+and-swap : (x y : Bool) → (x && y) ≡ (y && x)
+and-swap true true = refl
+and-swap true false = refl
+and-swap false true = refl
+and-swap false false = refl
+
+-- "the smaller of length field and payload end"
+smaller : (stated there : ℕ) → min stated there ≡ pick (ltb there stated) there stated
+smaller stated there = go (ltb there stated) refl
+  where
+    go : (t : Bool) → ltb there stated ≡ t → min stated there ≡ pick (ltb there stated) there stated
+    go true e = rw e (omega (arith, ltb-true there stated e))
+    go false e = rw e (omega (arith, ltb-false there stated e))
 
 module _ (guest : Guest) (frame : List ℕ) where
   dropped : Ran guest frame (gives (backendOf guest)) Drop
@@ -104,7 +129,7 @@ module _ (guest : Guest) (frame : List ℕ) where
       )
       arp-replied)))))
 
-module _ (guest : Guest) (frame : List ℕ) (typed : GuestTyped guest) (bytes : Bytes frame) where
+module _ (guest : Guest) (frame : List ℕ) (as-typed : GuestTyped guest) (bytes : Bytes frame) where
   panicked : HeaderPast frame → Ran guest frame panics Drop
   unfolding Ran
   panicked h = inr (h, refl)
@@ -139,4 +164,152 @@ module _ (guest : Guest) (frame : List ℕ) (typed : GuestTyped guest) (bytes : 
       either (Ran guest frame (answered (backendOf guest) frame payload′)) (ltb 65515 (length (payload frame))) _ _
       (λ over. cut-short _ _ (ping-cut (backendOf guest) frame payload′ long eight (ltb-true 65515 (length (payload frame)) over)))
       (λ within.
-      echoed _ (ping-answered (backendOf guest) frame payload′ long eight (typed .id) bytes (bytes-drop (payloadAt frame) frame bytes) (ltb-false 65515 (length (payload frame)) within))))))))))
+      echoed _ (ping-answered (backendOf guest) frame payload′ long eight (as-typed .id) bytes (bytes-drop (payloadAt frame) frame bytes) (ltb-false 65515 (length (payload frame)) within))))))))))
+
+  noted : (xid : ℕ) → Ran guest frame (gives (withXid xid (backendOf guest))) (DropNoting xid)
+  unfolding Ran
+  noted xid = refl
+
+  leased : (r : Run SlirpBackend) (xid type : ℕ) → r ≡ gives (pushed (dhcpFrame network guest frame xid type) ((guest .id + 1) % 65536) (withXid xid (backendOf guest)))
+      → Ran guest frame r (DhcpReply xid type)
+  unfolding Ran
+  leased r xid type e = e
+
+  type-cut : (place : ℕ) → Ran guest frame panics (CutType place)
+  unfolding Ran
+  type-cut place = refl
+
+  -- the end of `handle_dhcp`, by the walk
+  type-ran : 34 ≤ length frame → (xid : ℕ) (w : Walked)
+      → Ran guest frame
+      (ran w ▹ λ type.
+      cond (eqb type 1) («send_dhcp_reply» (withXid xid (backendOf guest)) (whole frame) xid 2)
+      (cond (eqb type 3) («send_dhcp_reply» (withXid xid (backendOf guest)) (whole frame) xid 5)
+      (gives (withXid xid (backendOf guest)))))
+      (typeDecision xid w)
+  type-ran long xid (cut place) = type-cut place
+  type-ran long xid (typed type) = go (eqb type 1) (eqb type 3)
+    where
+      go : (one three : Bool)
+          → Ran guest frame
+          (cond one («send_dhcp_reply» (withXid xid (backendOf guest)) (whole frame) xid 2)
+          (cond three («send_dhcp_reply» (withXid xid (backendOf guest)) (whole frame) xid 5)
+          (gives (withXid xid (backendOf guest)))))
+          (pick (eqb (pick one 2 (pick three 5 0)) 0) (DropNoting xid) (DhcpReply xid (pick one 2 (pick three 5 0))))
+      go true three = leased _ xid 2 (lease-sent guest frame as-typed long xid 2)
+      go false true = leased _ xid 5 (lease-sent guest frame as-typed long xid 5)
+      go false false = noted xid
+
+  dhcp-ran : 34 ≤ length frame → (start : ℕ) (message : List ℕ)
+      → Ran guest frame («handle_dhcp» (backendOf guest) (whole frame) (record { start = start; bytes = message })) (dhcpDecision message)
+  unfolding «handle_dhcp» dhcpDecision
+  dhcp-ran long start message =
+      let dhcp : Slice = record { start = start; bytes = message } in
+      both (Ran guest frame) (ltb (length message) 240) _ _ _ _ (λ e. dropped guest frame) (λ e.
+      let fixed = ltb-false (length message) 240 e in
+      rw (index-in dhcp 0 (omega (arith, fixed)))
+      (both (Ran guest frame) (not (eqb (Dhcp.operation message) 1)) _ _ _ _ (λ f. dropped guest frame) (λ f.
+      rw (
+        range-at dhcp 4 4 (omega (arith, fixed)),
+        array-of (record { start = start + 4; bytes = bytesAt message 4 4 }) 4 refl,
+        range-at dhcp 236 4 (omega (arith, fixed)),
+        array-of (record { start = start + 236; bytes = bytesAt message 236 4 }) 4 refl,
+        from-be message 4,
+        from-be message 236,
+      )
+      (both (Ran guest frame) (not (eqb (Dhcp.magicCookie message) 0x63825363)) _ _ _ _ (λ g. noted (Dhcp.transactionId message)) (λ g.
+      rw (message-type-walks dhcp) (type-ran long (Dhcp.transactionId message) (walk message)))))))
+
+  named : (start len : ℕ)
+      → Ran guest frame
+      (gives (calling («handle_dns» (record { start = start; bytes = take len (drop start frame) }) (sourceMac frame) (sourceOf (body frame)) (sourcePort (payload frame))) (backendOf guest)))
+      (Dns start len)
+  unfolding Ran
+  named start len = refl
+
+  relayed : (start len : ℕ)
+      → Ran guest frame
+      (gives
+      (calling
+      («relay_datagram» (sourceMac frame) (sourceOf (body frame)) (sourcePort (payload frame)) (targetOf (body frame)) (targetPort (payload frame))
+      (record { start = start; bytes = take len (drop start frame) }))
+      (backendOf guest)))
+      (Relay start len)
+  unfolding Ran
+  relayed start len = refl
+
+  -- the data of a datagram
+  data-part : payloadAt frame ≤ length frame → 8 ≤ length (payload frame) → 8 ≤ lengthField (payload frame)
+      → range (record { start = payloadAt frame; bytes = payload frame }) 8 (min (lengthField (payload frame)) (length (payload frame)))
+      ≡ gives (record { start = dataAt frame; bytes = datagramData frame })
+  data-part there whole stated =
+      rw (
+        smaller (lengthField (payload frame)) (length (payload frame)),
+        range-in (record { start = payloadAt frame; bytes = payload frame }) 8 (dataEnd (payload frame)) (reaches .0) (reaches .1),
+        drop-drop 8 (payloadAt frame) frame,
+      )
+    where
+      go : (t : Bool) → ltb (length (payload frame)) (lengthField (payload frame)) ≡ t
+          → (8 ≤ pick t (length (payload frame)) (lengthField (payload frame))) × (pick t (length (payload frame)) (lengthField (payload frame)) ≤ length (payload frame))
+      go true e = (whole, omega arith)
+      go false e = (stated, ltb-false (length (payload frame)) (lengthField (payload frame)) e)
+
+      reaches : (8 ≤ dataEnd (payload frame)) × (dataEnd (payload frame) ≤ length (payload frame))
+      reaches = go (ltb (length (payload frame)) (lengthField (payload frame))) refl
+
+  udp-ran : Carries frame 17 → Ran guest frame («handle_udp» (backendOf guest) (whole frame)) (udpDecision network frame)
+  unfolding «handle_udp» udpDecision
+  udp-ran udp =
+      let long = udp .long in
+      either (Ran guest frame _) (ltb (length frame) (payloadAt frame)) _ _
+      (λ f.
+      let past = ltb-true (length frame) (payloadAt frame) f in
+      rw (payload-past frame (omega (arith, long)) past) (panicked (record { read = inr udp; past = past })))
+      (λ f.
+      let there = ltb-false (length frame) (payloadAt frame) f in
+      let payload′ : Slice = record { start = payloadAt frame; bytes = payload frame } in
+      rw (payload-there frame (omega (arith, long)) there)
+      (both (Ran guest frame) (ltb (length (payload frame)) 8) _ _ _ _ (λ g. dropped guest frame) (λ g.
+      let eight = ltb-false (length (payload frame)) 8 g in
+      rw (u16be-in payload′ 0 (omega (arith, eight)), u16be-in payload′ 2 (omega (arith, eight)), u16be-in payload′ 4 (omega (arith, eight)))
+      (both (Ran guest frame) (ltb (lengthField (payload frame)) 8) _ _ _ _ (λ k. dropped guest frame) (λ k.
+      rw (
+        ip-dst frame long,
+        ip-src frame long,
+        eth-src frame (omega (arith, long)),
+        array-of (record { start = 6; bytes = sourceMac frame }) 6 refl,
+        data-part there eight (ltb-false (lengthField (payload frame)) 8 k),
+        and-swap (eqb (targetPort (payload frame)) 67) (eqb (sourcePort (payload frame)) 68),
+      )
+      (both (Ran guest frame) (eqb (sourcePort (payload frame)) 68 && eqb (targetPort (payload frame)) 67) _ _ _ _
+      (λ l. dhcp-ran long (dataAt frame) (datagramData frame))
+      (λ l.
+      rw (same-array (targetOf (body frame)) (network .gateway))
+      (both (Ran guest frame) (same (targetOf (body frame)) (network .gateway) && eqb (targetPort (payload frame)) 53) _ _ _ _
+      (λ m. named (dataAt frame) (dataLength frame)) (λ m. relayed (dataAt frame) (dataLength frame))))))))))
+
+  handed-on : Ran guest frame (gives (calling («handle_tcp» (whole frame)) (backendOf guest))) (Tcp (length frame))
+  unfolding Ran
+  handed-on = (refl, refl)
+
+  ip-ran : typeOf frame ≡ 0x0800 → Ran guest frame («handle_ip» (backendOf guest) (whole frame)) (ipDecision network frame)
+  unfolding «handle_ip» ipDecision
+  ip-ran ipv4 =
+      both (Ran guest frame) (ltb (length frame) 34) _ _ _ _ (λ e. dropped guest frame) (λ e.
+      let long = ltb-false (length frame) 34 e in
+      let proto = protocolOf (body frame) in
+      let carries : (n : ℕ) → eqb proto n ≡ true → Carries frame n = λ n f. record { long = long; ipv4 = ipv4; carried = eqb-true proto n f } in
+      rw (ip-proto frame (omega (arith, long)))
+      (both (Ran guest frame) (eqb proto 1) _ _ _ _ (λ f. icmp-ran (carries 1 f)) (λ f.
+      both (Ran guest frame) (eqb proto 6) _ _ _ _ (λ g. handed-on) (λ g.
+      both (Ran guest frame) (eqb proto 17) _ _ _ _ (λ k. udp-ran (carries 17 k)) (λ k. dropped guest frame)))))
+
+  -- the whole call
+  pub send-ran : Ran guest frame (send (backendOf guest) (whole frame)) (decision network frame)
+  unfolding send decision
+  send-ran =
+      both (Ran guest frame) (ltb (length frame) 14) _ _ _ _ (λ e. dropped guest frame) (λ e.
+      let long = ltb-false (length frame) 14 e in
+      rw (eth-type frame long)
+      (both (Ran guest frame) (eqb (typeOf frame) 0x0806) _ _ _ _ (λ f. arp-ran guest frame) (λ f.
+      both (Ran guest frame) (eqb (typeOf frame) 0x0800) _ _ _ _ (λ g. ip-ran (eqb-true (typeOf frame) 0x0800 g)) (λ g. dropped guest frame))))
