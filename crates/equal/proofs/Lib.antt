@@ -6,3 +6,5 @@ pub mod Fields
 pub mod Lease
 pub mod Ping
 pub mod Ran
+pub mod Exactly
+pub mod Demand2

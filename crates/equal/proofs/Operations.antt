@@ -12,7 +12,23 @@ use lib.Dec.{ltb, leb}
 use Rattle.fields.specs.Bytes.{be16, be32, bytesAt}
 use Rattle.frames.proofs.Lists.{part-bytes}
 use Rattle.equal.specs.Types.{Bytes}
-use Rattle.published.specs.Rust.{Run, gives, panics, _▹_, Slice, lenOf, index, range, array, zeros, store, copy, u32ToBe}
+use Rattle.published.specs.Rust.{Run, gives, panics, cuts, unfinished, _▹_, Slice, lenOf, index, range, array, zeros, store, copy, u32ToBe}
+
+-- how a run ends, as a number: runs that end differently are not equal
+abbrev pub ending : {A : Type 0} → Run A → ℕ
+ending (gives value) = 0
+ending panics = 1
+ending cuts = 2
+ending unfinished = 3
+
+abbrev given : {A : Type 0} → A → Run A → A
+given d (gives value) = value
+given d panics = d
+given d cuts = d
+given d unfinished = d
+
+pub gives-one : {A : Type 0} (a b : A) → gives a ≡ gives b → a ≡ b
+gives-one a b e = ap (given a) e
 
 -- the same run, and then the same with every value that it can give
 pub same-next : {A B : Type 0} (m : Run A) (f g : A → Run B) → ((value : A) → f value ≡ g value) → (m ▹ f) ≡ (m ▹ g)

@@ -75,7 +75,7 @@ from-be s at = ap u32FromBe (four-bytes s at) ∙ sums
     sums : u8At s at * 16777216 + u8At s (at + 1) * 65536 + u8At s (at + 2) * 256 + u8At s (at + 3) ≡ u32At s at
     sums = rw (add-assoc at 2 1) (omega arith)
 
-same-array : (s t : List ℕ) → sameArray s t ≡ same s t
+pub same-array : (s t : List ℕ) → sameArray s t ≡ same s t
 unfolding sameArray
 same-array [] [] = refl
 same-array [] (b ∷ t) = refl

@@ -5,7 +5,7 @@ use lib.ListN.{length}
 use Rattle.frames.specs.Answer.{Writing, Outcome}
 use Rattle.frames.specs.declared.answer.Guest.{Guest}
 use Rattle.published.specs.Rust.{lenOf}
-use Rattle.published.specs.Frames.{Endpoints as RustEndpoints}
+use Rattle.published.specs.Frames.{Endpoints as RustEndpoints, Counted}
 use Rattle.published.specs.Backend.{Call, «handle_dns», «relay_datagram», «handle_tcp», SlirpBackend}
 use Rattle.tcp.specs.declared.Endpoints.{Endpoints}
 
@@ -40,3 +40,12 @@ deed (frame ∷ frame′ ∷ pending) calls = record { numbers = []; image = [] 
 -- what came of a call that started with `backendOf` some record
 abbrev pub left : SlirpBackend → Outcome
 left self = record { writing = deed (self .«rx_pending») (self .calls); guest = recordOf self }
+
+-- what came of a builder that took this record's id: its frame, and the record with the counter behind it
+abbrev pub leftBuilt : Guest → Counted → Outcome
+leftBuilt guest made =
+    record { writing = record { numbers = 1 ∷ length (made .frame) ∷ []; image = made .frame }; guest = record { mac = guest .mac; id = made .counter; xid = guest .xid } }
+
+-- what came of one that takes none
+abbrev pub writtenAs : (built : List ℕ) → Writing
+writtenAs built = record { numbers = 1 ∷ length built ∷ []; image = built }
