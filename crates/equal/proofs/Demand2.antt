@@ -8,7 +8,7 @@ use native.Mathlib.Omega.{arith}
 use borrow.Author.Tests.{lt-ltb, le-ltb}
 use lib.ListN.{length, take, drop, length-take, length-drop}
 use Rattle.dhcp.proofs.ReadBack.{FourBytes}
-use Rattle.frames.specs.Answer.{Outcome, Meets, spent}
+use Rattle.frames.specs.Answer.{Outcome, Meets, fresh, spent}
 use Rattle.frames.specs.Network.{network}
 use Rattle.frames.specs.declared.answer.Answer.{Answer}
 use Rattle.frames.specs.declared.answer.Guest.{Guest}
@@ -122,11 +122,10 @@ module _ (guest : Guest) (frame : List ℕ) (typed : GuestTyped guest) (bytes : 
   -- exactly where it cuts a length
   pub rust-cuts-exactly : (send (backendOf guest) (whole frame) ≡ cuts) ↔ PingOver frame
   unfolding Foretells
-  rust-cuts-exactly =
-      (
-        λ e. (length (payload frame), subst (λ (r : Run SlirpBackend). Foretells guest frame typed 0 r (outcome network guest frame 0)) e (said 0) .0),
-        λ p. ping-over-cuts guest frame typed bytes (p .0) (p .1)
-      )
+  rust-cuts-exactly = (
+    λ e. (length (payload frame), subst (λ (r : Run SlirpBackend). Foretells guest frame typed 0 r (outcome network guest frame 0)) e (said 0) .0),
+    λ p. ping-over-cuts guest frame typed bytes (p .0) (p .1),
+  )
 
   module _ (before after : List ℕ) (answer : Answer) (m : Meets (outcome network guest frame (length before)) before after answer) where
     -- what is to come, if it is something that was said
@@ -138,3 +137,32 @@ module _ (guest : Guest) (frame : List ℕ) (typed : GuestTyped guest) (bytes : 
     unfolding Foretells ByRoom
     handle-equals-the-rust b e room =
         meets (left b) (subst (λ (r : Run SlirpBackend). Foretells guest frame typed (length before) r (outcome network guest frame (length before))) e (said (length before)) .0 room)
+
+    -- where it gives, and the buffer is shorter than its reply: 5 with the reply's length, and nothing has changed
+    pub handle-lacks-the-room : (b : SlirpBackend) → send (backendOf guest) (whole frame) ≡ gives b → length before < length (left b .writing .image)
+        → Meets (unwritten (5 ∷ length (left b .writing .image) ∷ []) guest) before after answer
+    unfolding Foretells ByRoom
+    handle-lacks-the-room b e short =
+        meets _ (subst (λ (r : Run SlirpBackend). Foretells guest frame typed (length before) r (outcome network guest frame (length before))) e (said (length before)) .1 short)
+
+    -- where it panics: 0, or 7 with the place of the option, and nothing has changed
+    pub handle-where-it-panics : send (backendOf guest) (whole frame) ≡ panics
+        → (HeaderPast frame × Meets (unwritten (0 ∷ []) guest) before after answer) ⊎ ((place : ℕ) × CutMessage frame place × Meets (unwritten (7 ∷ place ∷ []) guest) before after answer)
+    unfolding Foretells
+    handle-where-it-panics e =
+        go (subst (λ (r : Run SlirpBackend). Foretells guest frame typed (length before) r (outcome network guest frame (length before))) e (said (length before)))
+      where
+        go : (HeaderPast frame × (outcome network guest frame (length before) ≡ unwritten (0 ∷ []) guest)) ⊎ ((place : ℕ) × CutMessage frame place × (outcome network guest frame (length before) ≡ unwritten (7 ∷ place ∷ []) guest))
+            → (HeaderPast frame × Meets (unwritten (0 ∷ []) guest) before after answer) ⊎ ((place : ℕ) × CutMessage frame place × Meets (unwritten (7 ∷ place ∷ []) guest) before after answer)
+        go (inl (h, o)) = inl (h, meets _ o)
+        go (inr (place, c, o)) = inr (place, c, meets _ o)
+
+    -- where it cuts a length: 6 with the payload's length, and nothing has changed
+    pub handle-where-it-cuts : send (backendOf guest) (whole frame) ≡ cuts → Meets (unwritten (6 ∷ length (payload frame) ∷ []) guest) before after answer
+    unfolding Foretells
+    handle-where-it-cuts e =
+        meets _ (subst (λ (r : Run SlirpBackend). Foretells guest frame typed (length before) r (outcome network guest frame (length before))) e (said (length before)) .1)
+
+-- a new backend, beside a new record
+pub new-is-fresh : (mac : List ℕ) → new mac ≡ backendOf (fresh mac)
+new-is-fresh mac = refl

@@ -136,6 +136,6 @@ module _ (guest : Guest) (frame : List ℕ) (typed : GuestTyped guest) (long : 3
         build-reply-given xid type (guest .mac) (typed .mac .long),
         udp-payload-given 68 67 (whole message) (omega (arith, size)),
         ip-frame-given (guest .id) 17 «BCAST_MAC» «GW_IP» «BCAST_IP» (whole whole-datagram) refl refl refl (typed .id) (omega arith)
-        (omega arith, (omega arith, (omega arith, (omega arith, tt)))) (omega arith, (omega arith, (omega arith, (omega arith, tt)))) (omega (arith, size, length-datagram 68 67 message)),
+            (omega arith, (omega arith, (omega arith, (omega arith, tt)))) (omega arith, (omega arith, (omega arith, (omega arith, tt)))) (omega (arith, size, length-datagram 68 67 message)),
         copy-over [] «BCAST_MAC» (gatewayMac ++ be16 0x0800 ++ header (20 + length whole-datagram) (guest .id) 17 «GW_IP» «BCAST_IP» ++ whole-datagram) (sourceMac frame) 0 6 refl refl refl,
       )

@@ -8,3 +8,4 @@ pub mod Ping
 pub mod Ran
 pub mod Exactly
 pub mod Demand2
+pub mod BuildersEqual

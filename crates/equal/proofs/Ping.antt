@@ -94,5 +94,5 @@ module _ (self : SlirpBackend) (frame : List ℕ) (payload : Slice) (long : 34 �
       ∙ rw (
         rust-checksum (echoWith 0 (payload .bytes)) (echo-bytes bp) (omega (arith, length-echoWith 0)),
         ip-frame-given (self .counter) 1 (sourceMac frame) «GW_IP» (sourceOf (body frame)) (whole (echoWith sum (payload .bytes))) refl refl refl c (omega arith)
-        (omega arith, (omega arith, (omega arith, (omega arith, tt)))) (bytes-at (body frame) 12 4 (bytes-drop 14 frame b)) (omega (arith, length-echoWith sum)),
+            (omega arith, (omega arith, (omega arith, (omega arith, tt)))) (bytes-at (body frame) 12 4 (bytes-drop 14 frame b)) (omega (arith, length-echoWith sum)),
       )

@@ -7,7 +7,7 @@ use native.Mathlib.Omega.{arith}
 use borrow.Author.Tests.{lt-ltb, le-ltb, ltb-true, ltb-false, eq-eqb, ne-eqb, eqb-true, eqb-false}
 use lib.Bits.{bitAnd, and-mask}
 use lib.Dec.{ltb, eqb}
-use lib.ListN.{length, getD, drop}
+use lib.ListN.{length, getD, drop, replicate}
 use native.Mathlib.Nat.{zero-add}
 use Rattle.published.specs.Rust.{Run, gives, _▹_, Slice, whole, lenOf, index}
 use Rattle.published.specs.Frames.{sumFrom, folded, checksum as rustChecksum}
@@ -94,3 +94,20 @@ unfolding checksum
 rust-checksum s b h =
     let bound = total-bound s b in
     rust-sum s ∙ ap (λ (n : ℕ). gives (65535 - fold n)) (omega arith)
+
+-- One byte more, and it can be wrong: of 131,075 bytes of 0xff the Rust's checksum is 0x0100, and RFC 1071's 0x00ff.
+total-ones : (pairs : ℕ) → total (replicate (pairs * 2 + 1) 255) ≡ pairs * 65535 + 65280
+unfolding total words sum
+total-ones zero = refl
+total-ones (suc pairs) =
+    let more : suc pairs * 2 + 1 ≡ suc (suc (pairs * 2 + 1)) = omega arith in
+    let rest = total-ones pairs in
+    ap (λ (n : ℕ). total (replicate n 255)) more ∙ omega arith
+
+pub rust-sum-wraps : rustChecksum (whole (replicate 131075 255)) ≡ gives 0x0100
+unfolding fold
+rust-sum-wraps = rust-sum (replicate 131075 255) ∙ ap (λ (n : ℕ). gives (65535 - fold (n % 4294967296))) (total-ones 65537)
+
+pub checksum-there : checksum (replicate 131075 255) ≡ 0x00ff
+unfolding checksum fold
+checksum-there = ap (λ (n : ℕ). 65535 - fold n) (total-ones 65537)

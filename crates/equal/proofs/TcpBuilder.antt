@@ -180,7 +180,7 @@ module _ (counter : ℕ) (ends : Endpoints) (seq ack flags : ℕ) («data» : Sl
         lt-ltb (20 + length (options flags) + lenOf «data») 65536 (omega arith),
         ← long,
         rust-checksum (pseudo ++ plain) (bytes-append pseudo plain (pseudo-bytes (length plain) (omega arith)) (segment-bytes s a f b))
-        (omega (arith, length-append pseudo plain, length-pseudo (length plain))),
+            (omega (arith, length-append pseudo plain, length-pseudo (length plain))),
       )
       (ip-frame-given counter 6 (ends .«dst_mac») (ends .«src_ip») (ends .«dst_ip») (whole (with-sum ends seq ack flags «data» sum))
       (typed .mac .long) (typed .source .long) (typed .target .long) c (omega arith) (typed .source .bytes) (typed .target .bytes) (omega (arith, length-with-sum sum)))

@@ -49,3 +49,7 @@ leftBuilt guest made =
 -- what came of one that takes none
 abbrev pub writtenAs : (built : List ℕ) → Writing
 writtenAs built = record { numbers = 1 ∷ length built ∷ []; image = built }
+
+-- nothing is written
+abbrev pub refusedAs : (numbers : List ℕ) → Writing
+refusedAs numbers = record { numbers = numbers; image = [] }

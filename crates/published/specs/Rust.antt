@@ -17,7 +17,6 @@ pub data Run (A : Type 0) : Type 0 where
   unfinished : Run A
 
 infixr 20 _▹_
-
 -- a run, and with the value that it gives the next
 abbrev pub _▹_ : {A B : Type 0} → Run A → (A → Run B) → Run B
 gives value ▹ next = next value
