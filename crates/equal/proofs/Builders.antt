@@ -1,10 +1,10 @@
 -- What the Rust's builders give: the frames and datagrams of the RFCs, or a length that is cut.
-use Prim.Native.Nat.{ℕ, _+_, _-_, _/_, _%_, _≤_, _<_}
-use mathlib.Core.Path.{_≡_, refl, ap, sym, subst, _∙_}
-use mathlib.Core.List.{List, [], _∷_, _++_, append-assoc}
+use Prim.Native.Nat.{ℕ, _+_, _-_, _%_, _≤_, _<_}
+use mathlib.Core.Path.{_≡_, refl, subst, _∙_}
+use mathlib.Core.List.{List, [], _∷_, _++_}
 use native.Mathlib.Omega.{arith}
 use borrow.Author.Tests.{lt-ltb, le-ltb}
-use lib.ListN.{length, getD, replicate, length-replicate, replicate-append-replicate}
+use lib.ListN.{length}
 use Rattle.fields.specs.Bytes.{be16, bytesAt}
 use Rattle.frames.proofs.Lists.{all-bytes}
 use Rattle.frames.proofs.Lengths.{length-header}
@@ -12,11 +12,11 @@ use Rattle.frames.specs.Rfc791.{headerWith, header, ipFrame}
 use Rattle.frames.specs.Rfc894.{ethernet}
 use Rattle.frames.specs.Network.{gatewayMac}
 use Rattle.frames.specs.Rfc768.{datagram}
-use Rattle.published.specs.Rust.{Run, gives, cuts, _▹_, Slice, whole, lenOf, zeros, store, copy, copyFrom, u16ToBe, wrappingAddU16}
+use Rattle.published.specs.Rust.{Run, gives, cuts, _▹_, Slice, lenOf, zeros, store, copy, copyFrom, u16ToBe, wrappingAddU16}
 use Rattle.published.specs.Frames.{Counted, «HOST_MAC», «ETHERTYPE_IP», «make_ip_frame», «make_udp_payload»}
 use Rattle.sums.specs.Rfc1071.{checksum}
 use Rattle.equal.specs.Types.{Bytes}
-use Rattle.equal.proofs.Operations.{copy-zeros, copy-end, copy-rest, bytes-append, be16-bytes}
+use Rattle.equal.proofs.Operations.{copy-zeros, copy-end, copy-rest, bytes-append}
 use Rattle.equal.proofs.Sum.{rust-checksum}
 
 -- the end of `make_ip_frame`: the header in its frame

@@ -7,8 +7,8 @@ use mathlib.Core.List.{List, [], _∷_}
 use native.Mathlib.Omega.{arith}
 use borrow.Author.Tests.{ltb-true, ltb-false, lt-ltb, le-ltb}
 use lib.Dec.{ltb}
-use lib.ListN.{length, length-append}
-use Rattle.frames.specs.Answer.{Writing, Outcome, Wrote, Meets, building, spending, spent}
+use lib.ListN.{length}
+use Rattle.frames.specs.Answer.{Wrote, Meets, building, spending}
 use Rattle.frames.specs.Builders.{makeIpFrame, makeUdpPayload}
 use Rattle.frames.specs.Rfc768.{datagram}
 use Rattle.frames.specs.Rfc791.{ipFrame}

@@ -1,11 +1,11 @@
 -- The frames on which the Rust panics, and those on which it cuts a length: it does so on all of them.
-use Prim.Native.Nat.{ℕ, _+_, _≤_, _<_}
-use mathlib.Core.Path.{_≡_, refl, ap, sym, subst, _∙_}
-use mathlib.Core.Bool.{Bool, true}
+use Prim.Native.Nat.{ℕ, _<_}
+use mathlib.Core.Path.{_≡_, ap, subst, _∙_}
+use mathlib.Core.Bool.{true}
 use mathlib.Core.Logic.{_⊎_, inl, inr}
 use mathlib.Core.List.{List}
 use native.Mathlib.Omega.{arith}
-use borrow.Author.Tests.{lt-ltb, le-ltb, eq-eqb, ne-eqb}
+use borrow.Author.Tests.{le-ltb, eq-eqb, ne-eqb}
 use lib.ListN.{length}
 use Rattle.fields.specs.Rfc768.{sourcePort, targetPort, lengthField}
 use Rattle.fields.specs.Rfc791.{protocolOf, targetOf}
@@ -13,14 +13,14 @@ use Rattle.fields.specs.Rfc894.{body, typeOf}
 use Rattle.fields.specs.Rfc2131.{operation, magicCookie}
 use Rattle.frames.specs.Network.{network}
 use Rattle.frames.specs.declared.answer.Guest.{Guest}
-use Rattle.published.specs.Rust.{Run, panics, cuts, whole}
+use Rattle.published.specs.Rust.{panics, cuts, whole}
 use Rattle.published.specs.Backend.{SlirpBackend}
 use Rattle.published.specs.Slirp.{«handle_icmp», «handle_ip», send}
 use Rattle.published.specs.Udp.{«handle_udp»}
 use Rattle.rules.specs.Rules.{payloadAt, payload, datagramData, decision, ipDecision, udpDecision, dhcpDecision}
 use Rattle.rules.specs.Same.{same}
 use Rattle.rules.specs.Seen.{Carries, CutMessage, TooLongPing}
-use Rattle.rules.specs.declared.decision.Decision.the-variants.{TooLong, CutType}
+use Rattle.rules.specs.declared.decision.Decision.the-variants.{CutType}
 use Rattle.rules.proofs.Same.{equal-same}
 use Rattle.rules.proofs.Says.{too-long-decided}
 use Rattle.equal.specs.Alike.{backendOf}

@@ -1,17 +1,17 @@
 -- The Rust's field readers, on a frame that is long enough for them: the fields of the RFCs.
-use Prim.Native.Nat.{ℕ, zero, suc, _+_, _*_, _-_, _%_, _≤_, _<_}
-use mathlib.Core.Path.{_≡_, refl, ap, ap₂, sym, _∙_}
-use mathlib.Core.List.{List, [], _∷_}
+use Prim.Native.Nat.{ℕ, zero, suc, _+_, _-_, _≤_, _<_}
+use mathlib.Core.Path.{_≡_, refl, ap, ap₂, _∙_}
+use mathlib.Core.List.{List, _∷_}
 use native.Mathlib.Omega.{arith}
 use native.Mathlib.Nat.{zero-add}
-use lib.Bits.{bitAnd, and-mask}
+use lib.Bits.{and-mask}
 use lib.ListN.{length, getD, take, drop}
 use lib.Seq.{getD-drop}
-use Rattle.fields.specs.Bytes.{u8At, u16At, u32At, bytesAt}
+use Rattle.fields.specs.Bytes.{u16At, bytesAt}
 use Rattle.fields.specs.Rfc791.{headerLength, protocolOf, sourceOf, targetOf}
 use Rattle.fields.specs.Rfc894.{body, sourceMac, typeOf}
 use Rattle.frames.proofs.Lists.{part-bytes, from-on}
-use Rattle.published.specs.Rust.{Run, gives, panics, _▹_, Slice, whole, lenOf, index, range, array, u32FromBe}
+use Rattle.published.specs.Rust.{gives, panics, Slice, whole, lenOf, range}
 use Rattle.published.specs.Frames.{«eth_src», «eth_type», «ip_proto», «ip_src», «ip_dst», «ip_hlen», «ip_payload», u16be}
 use Rattle.rules.specs.Rules.{payloadAt, payload}
 use Rattle.equal.proofs.Operations.{index-in, range-in, range-past, array-of}

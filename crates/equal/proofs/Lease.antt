@@ -1,12 +1,12 @@
 -- The Rust's DHCP: `message_type` is document 01's walk, and panics where that is cut; `build_reply` is RFC 2131's reply.
-use Prim.Native.Nat.{ℕ, zero, suc, _+_, _-_, _/_, _%_, _≤_, _<_}
-use mathlib.Core.Path.{_≡_, refl, ap, sym, subst, _∙_}
-use mathlib.Core.Bool.{Bool, true, false, _&&_, not, cond}
+use Prim.Native.Nat.{ℕ, zero, suc, _+_, _-_, _%_, _≤_, _<_}
+use mathlib.Core.Path.{_≡_, refl, ap}
+use mathlib.Core.Bool.{Bool, true, false}
 use mathlib.Core.List.{List, [], _∷_, _++_}
 use native.Mathlib.Omega.{arith}
-use borrow.Author.Tests.{lt-ltb, le-ltb, ltb-true, ltb-false, le-leb, lt-leb, leb-true, leb-false, eq-eqb, ne-eqb, eqb-true, eqb-false}
+use borrow.Author.Tests.{ltb-true, ltb-false, leb-true, leb-false, eqb-true, eqb-false}
 use lib.Dec.{ltb, leb, eqb}
-use lib.ListN.{length, getD, drop}
+use lib.ListN.{length}
 use Rattle.fields.specs.Bytes.{be16, u8At, bytesAt}
 use Rattle.dhcp.specs.Rfc2131.{reply}
 use Rattle.dhcp.proofs.ReadBack.{FourBytes, reply-reads-back}
@@ -18,10 +18,10 @@ use Rattle.frames.specs.declared.answer.Guest.{Guest}
 use Rattle.frames.proofs.Lengths.{length-datagram}
 use Rattle.rules.specs.Rfc2131.{dhcpFrame}
 use Rattle.frames.proofs.Lists.{all-bytes}
-use Rattle.options.specs.Rfc2132.{option, Walked, typed, cut, decides, walkFrom, walk}
+use Rattle.options.specs.Rfc2132.{option, Walked, typed, cut, decides, walk}
 use Rattle.options.proofs.Places.{walkAt, past-end, at-255, at-0, at-last, at-other, at-type, at-cut}
 use Rattle.rules.proofs.Same.{both-left, both-right}
-use Rattle.published.specs.Rust.{Run, gives, panics, _▹_, Slice, whole, lenOf, index, zeros, store, copy, u32ToBe}
+use Rattle.published.specs.Rust.{Run, gives, panics, Slice, whole, lenOf, zeros, store, copy, u32ToBe}
 use Rattle.published.specs.Frames.{«BCAST_MAC», «BCAST_IP», «GW_IP»}
 use Rattle.published.specs.Backend.{withXid, pushed}
 use Rattle.published.specs.Dhcp.{scan, «message_type», «build_reply», «send_dhcp_reply»}
@@ -118,7 +118,7 @@ pub build-reply-given : (xid type : ℕ) (mac : List ℕ) → length mac ≡ 6 �
 unfolding «build_reply» store copy reply built
 build-reply-given xid type mac six = rw (all-bytes mac 6 six) (ap (λ (x : List ℕ). gives (built (bytesAt mac 0 6) x type)) (be32-bytes xid))
 
-four-bytes : FourBytes network
+pub four-bytes : FourBytes network
 four-bytes = record { gateway = refl; guest = refl; mask = refl }
 
 -- The frame of a reply: built for the broadcast MAC, then sent to the frame's own source.

@@ -7,5 +7,6 @@ pub mod Lease
 pub mod Ping
 pub mod Ran
 pub mod Exactly
+pub mod Foretold
 pub mod Demand2
 pub mod BuildersEqual

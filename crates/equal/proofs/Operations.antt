@@ -6,11 +6,10 @@ use mathlib.Core.List.{List, [], _∷_, _++_, append-assoc, append-nil}
 use native.Mathlib.Omega.{arith}
 use borrow.Author.Tests.{lt-ltb, le-ltb, ltb-true, ltb-false, le-leb, lt-leb, eq-eqb}
 use native.Mathlib.Nat.{add-assoc}
-use lib.ListN.{length, getD, take, drop, replicate, length-append, length-replicate, replicate-append-replicate}
+use lib.ListN.{length, getD, take, drop, length-append, length-replicate, replicate-append-replicate}
 use lib.Seq.{take-at, drop-at}
 use lib.Dec.{ltb, leb}
 use Rattle.fields.specs.Bytes.{be16, be32, bytesAt}
-use Rattle.frames.proofs.Lists.{part-bytes}
 use Rattle.equal.specs.Types.{Bytes}
 use Rattle.published.specs.Rust.{Run, gives, panics, cuts, unfinished, _▹_, Slice, lenOf, index, range, array, zeros, store, copy, u32ToBe}
 

@@ -3,16 +3,16 @@ use Prim.Native.Nat.{ℕ, _+_, _-_, _%_, _≤_, _<_}
 use mathlib.Core.Path.{_≡_, refl, ap₂, sym, _∙_}
 use mathlib.Core.List.{List, [], _∷_, _++_}
 use native.Mathlib.Omega.{arith}
-use lib.ListN.{length, getD, take, drop, length-drop, take-append-drop}
+use lib.ListN.{length, drop, length-drop, take-append-drop}
 use lib.Seq.{drop-drop}
-use Rattle.fields.specs.Bytes.{be16, bytesAt}
+use Rattle.fields.specs.Bytes.{bytesAt}
 use Rattle.fields.specs.Rfc791.{sourceOf}
 use Rattle.fields.specs.Rfc894.{body, sourceMac}
 use Rattle.frames.specs.Network.{network}
 use Rattle.frames.specs.Rfc791.{ipFrame}
 use Rattle.frames.proofs.Lists.{part-bytes, from-on}
 use Rattle.published.specs.Rust.{Run, gives, cuts, _▹_, Slice, whole, lenOf, zeros, range, rangeFrom, array, copy, copyFrom, u16ToBe}
-use Rattle.published.specs.Frames.{Counted, «GW_IP», «IP_PROTO_ICMP», «eth_src», «ip_src», «make_ip_frame», checksum as rustChecksum}
+use Rattle.published.specs.Frames.{«GW_IP», «IP_PROTO_ICMP», «eth_src», «ip_src», «make_ip_frame», checksum as rustChecksum}
 use Rattle.published.specs.Backend.{SlirpBackend, pushed}
 use Rattle.rules.specs.Rfc792.{echoWith, echo}
 use Rattle.sums.specs.Rfc1071.{total, fold, checksum}

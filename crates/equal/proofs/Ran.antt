@@ -1,14 +1,14 @@
 -- The Rust on a guest frame, test by test beside document 01's order of tests: what its run comes to, for each decision.
-use Prim.Native.Nat.{ℕ, _+_, _*_, _-_, _%_, _≤_, _<_, min}
-use mathlib.Core.Path.{_≡_, refl, ap, ap₂, sym, subst, _∙_}
+use Prim.Native.Nat.{ℕ, _+_, _*_, _-_, _%_, _≤_, min}
+use mathlib.Core.Path.{_≡_, refl, ap, _∙_}
 use mathlib.Core.Bool.{Bool, true, false, not, _&&_, cond}
 use mathlib.Core.Logic.{_⊎_, inl, inr}
-use mathlib.Core.List.{List, [], _∷_, _++_}
+use mathlib.Core.List.{List, [], _∷_}
 use native.Mathlib.Omega.{arith}
 use native.Mathlib.Nat.{add-assoc}
-use borrow.Author.Tests.{ltb-true, ltb-false, lt-ltb, le-ltb, eqb-true, eq-eqb, ne-eqb, not-false, not-true}
+use borrow.Author.Tests.{ltb-true, ltb-false, eqb-true, not-false}
 use lib.Dec.{ltb, eqb}
-use lib.ListN.{length, getD, take, drop, length-drop}
+use lib.ListN.{length, take, drop, length-drop}
 use lib.Seq.{drop-drop}
 use Rattle.fields.specs.Bytes.{u8At, u32At, bytesAt}
 use Rattle.fields.proofs.Reading.{four-bytes}
@@ -23,7 +23,7 @@ use Rattle.frames.specs.Pick.{pick}
 use Rattle.frames.specs.declared.answer.Guest.{Guest}
 use Rattle.frames.proofs.Lists.{from-on}
 use Rattle.options.specs.Rfc2132.{Walked, typed, cut, walk}
-use Rattle.published.specs.Rust.{Run, gives, panics, cuts, _▹_, Slice, whole, lenOf, index, range, array, store, copy, sameArray, u32FromBe}
+use Rattle.published.specs.Rust.{Run, gives, panics, cuts, _▹_, Slice, whole, range, store, copy, sameArray, u32FromBe}
 use Rattle.published.specs.Backend.{«handle_dns», «relay_datagram», «handle_tcp», SlirpBackend, withXid, pushed, calling}
 use Rattle.published.specs.Slirp.{«handle_arp», «handle_icmp», «handle_ip», send}
 use Rattle.published.specs.Udp.{«handle_udp»}
@@ -37,6 +37,7 @@ use Rattle.rules.specs.Seen.{Carries}
 use Rattle.rules.specs.declared.decision.Decision.{Decision}
 use Rattle.rules.specs.declared.decision.Decision.the-variants.{Drop, DropNoting, ArpReply, EchoReply, DhcpReply, Dns, Relay, Tcp, TooLong, CutType}
 use Rattle.rules.proofs.Same.{same-equal}
+use Rattle.rules.proofs.Says.{either}
 use Rattle.equal.specs.Alike.{backendOf}
 use Rattle.equal.specs.Types.{Bytes, GuestTyped}
 use Rattle.equal.specs.Where.{HeaderPast}
@@ -64,10 +65,6 @@ Ran guest frame r (CutType place) = r ≡ panics
 both : (P : Run SlirpBackend → Decision → Type 0) (t : Bool) (r r′ : Run SlirpBackend) (d d′ : Decision) → (t ≡ true → P r d) → (t ≡ false → P r′ d′) → P (cond t r r′) (pick t d d′)
 both P true r r′ d d′ f g = f refl
 both P false r r′ d d′ f g = g refl
-
-either : (P : Decision → Type 0) (t : Bool) (d d′ : Decision) → (t ≡ true → P d) → (t ≡ false → P d′) → P (pick t d d′)
-either P true d d′ f g = f refl
-either P false d d′ f g = g refl
 
 from-be : (s : List ℕ) (at : ℕ) → u32FromBe (bytesAt s at 4) ≡ u32At s at
 from-be s at = ap u32FromBe (four-bytes s at) ∙ sums

@@ -1,18 +1,18 @@
 -- The Rust's checksum, on every input: RFC 1071's fold of the sum modulo 2^32; and so RFC 1071's checksum, where the sum stays below that.
 use Prim.Native.Nat.{ℕ, zero, suc, _+_, _*_, _-_, _/_, _%_, _≤_, _<_}
-use mathlib.Core.Path.{_≡_, refl, ap, sym, _∙_}
-use mathlib.Core.Bool.{Bool, true, false, not, cond}
+use mathlib.Core.Path.{_≡_, refl, ap, _∙_}
+use mathlib.Core.Bool.{Bool, true, false}
 use mathlib.Core.List.{List, [], _∷_}
 use native.Mathlib.Omega.{arith}
-use borrow.Author.Tests.{lt-ltb, le-ltb, ltb-true, ltb-false, eq-eqb, ne-eqb, eqb-true, eqb-false}
-use lib.Bits.{bitAnd, and-mask}
-use lib.Dec.{ltb, eqb}
+use borrow.Author.Tests.{ltb-true, ltb-false, eq-eqb, ne-eqb}
+use lib.Bits.{and-mask}
+use lib.Dec.{ltb}
 use lib.ListN.{length, getD, drop, replicate}
 use native.Mathlib.Nat.{zero-add}
-use Rattle.published.specs.Rust.{Run, gives, _▹_, Slice, whole, lenOf, index}
+use Rattle.published.specs.Rust.{gives, whole}
 use Rattle.published.specs.Frames.{sumFrom, folded, checksum as rustChecksum}
 use Rattle.sums.specs.Rfc1071.{words, sum, total, fold, checksum}
-use Rattle.sums.proofs.Laws.{fold-pos, fold-zero, fold-small, two-folds, total-step, total-last, total-none}
+use Rattle.sums.proofs.Laws.{fold-pos, fold-small, total-step, total-last, total-none}
 use Rattle.equal.specs.Types.{Bytes}
 use Rattle.equal.proofs.Operations.{index-in}
 

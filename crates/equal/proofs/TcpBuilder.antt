@@ -1,18 +1,18 @@
 -- What the Rust's `make_tcp_frame` gives: RFC 9293's segment in its frame, or a length that is cut.
 use Prim.Native.Nat.{ℕ, zero, suc, _+_, _*_, _-_, _/_, _%_, _≤_, _<_}
-use mathlib.Core.Path.{_≡_, refl, ap, sym, subst, _∙_}
+use mathlib.Core.Path.{_≡_, refl, sym, _∙_}
 use mathlib.Core.Bool.{Bool, true, false, not, cond}
-use mathlib.Core.List.{List, [], _∷_, _++_, append-assoc}
+use mathlib.Core.List.{List, [], _∷_, _++_}
 use native.Mathlib.Omega.{arith}
-use borrow.Author.Tests.{lt-ltb, le-ltb, ltb-true, ltb-false, eq-eqb, ne-eqb, eqb-true}
+use borrow.Author.Tests.{lt-ltb}
 use lib.Bits.{bitAnd, and-step, and-mask}
 use lib.Dec.{ltb, eqb}
-use lib.ListN.{length, getD, length-append}
+use lib.ListN.{length, length-append}
 use Rattle.fields.specs.Bytes.{be16, be32, bytesAt}
 use Rattle.frames.proofs.Lists.{all-bytes}
 use Rattle.frames.specs.Pick.{pick}
 use Rattle.frames.specs.Rfc768.{pseudoHeader}
-use Rattle.published.specs.Rust.{Run, gives, cuts, _▹_, Slice, whole, lenOf, zeros, copy, copyFrom, asU16, asU8, u16ToBe, u32ToBe}
+use Rattle.published.specs.Rust.{Run, gives, cuts, _▹_, Slice, whole, lenOf, zeros, asU16, u16ToBe}
 use Rattle.published.specs.Frames.{Counted, «make_ip_frame», «make_tcp_frame», checksum as rustChecksum}
 use Rattle.tcp.specs.Rfc9293.{synSet, synOptions, options, segmentHeader, covered, summedHeader, segment, tcpFrame}
 use Rattle.tcp.specs.Builders.{dataLimit}

@@ -1,6 +1,6 @@
 -- What the operations of Rust mean that the published text uses: how a run ends, slices, arrays, vectors, numbers of a fixed width.
 -- A byte, a number and a length are natural numbers; `[u8; n]` and `Vec<u8>` are lists, `&[u8]` is a `Slice`. No length comes near the end of `usize`.
-use Prim.Native.Nat.{ℕ, zero, suc, _+_, _*_, _-_, _/_, _%_}
+use Prim.Native.Nat.{ℕ, _+_, _*_, _-_, _/_, _%_}
 use mathlib.Core.Bool.{Bool, true, false, _&&_, cond}
 use mathlib.Core.List.{List, [], _∷_, _++_}
 use lib.Dec.{ltb, leb, eqb}

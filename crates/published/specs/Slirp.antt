@@ -4,7 +4,7 @@ use Prim.Native.Nat.{ℕ, _+_}
 use mathlib.Core.Bool.{not, cond}
 use mathlib.Core.List.{List, [], _++_}
 use lib.Dec.{ltb, eqb}
-use lib.ListN.{length, take, drop}
+use lib.ListN.{take, drop}
 use Rattle.published.specs.Rust.{Run, gives, _▹_, Slice, whole, lenOf, index, range, rangeFrom, array, zeros, store, copy, copyFrom, sameArray, u16ToBe}
 use Rattle.published.specs.Frames.{«ETHERTYPE_ARP», «ETHERTYPE_IP», «GW_IP», «HOST_MAC», «IP_PROTO_ICMP», «IP_PROTO_TCP», «IP_PROTO_UDP», checksum, «eth_src», «eth_type», «ip_dst», «ip_payload», «ip_proto», «ip_src», «make_ip_frame», u16be}
 use Rattle.published.specs.Backend.{«handle_tcp», SlirpBackend, pushed, calling}

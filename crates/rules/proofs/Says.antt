@@ -79,7 +79,7 @@ module _ (net : Network) (frame : List ℕ) where
   cut-off place c = c
 
 -- what holds in both cases of a test holds
-either : (P : Decision → Type 0) (t : Bool) (a b : Decision) → (t ≡ true → P a) → (t ≡ false → P b) → P (pick t a b)
+pub either : (P : Decision → Type 0) (t : Bool) (a b : Decision) → (t ≡ true → P a) → (t ≡ false → P b) → P (pick t a b)
 either P true a b f g = f refl
 either P false a b f g = g refl
 
