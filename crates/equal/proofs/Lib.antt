@@ -9,4 +9,5 @@ pub mod Ran
 pub mod Exactly
 pub mod Foretold
 pub mod Demand2
+pub mod Smallest
 pub mod BuildersEqual
