@@ -1,4 +1,4 @@
--- Demand 2 of the builders, and of the checksum: of whatever meets their contracts, beside the Rust's.
+-- Demand 2 of the three builders and of the checksum: of whatever meets their contracts, beside the Rust's.
 use Prim.Native.Nat.{ℕ, _+_, _%_, _≤_, _<_}
 use mathlib.Core.Path.{_≡_, refl, ap, sym, subst, _∙_}
 use mathlib.Core.Bool.{Bool, true, false}
@@ -17,16 +17,18 @@ use Rattle.frames.specs.declared.answer.Guest.{Guest}
 use Rattle.frames.specs.declared.answer.Verdict.{Verdict}
 use Rattle.frames.proofs.Lengths.{length-datagram, length-ipFrame}
 use Rattle.published.specs.Rust.{Run, gives, panics, cuts, unfinished, whole}
-use Rattle.published.specs.Frames.{Counted, «make_ip_frame», «make_udp_payload», «make_tcp_frame»}
+use Rattle.published.specs.Frames.{Counted, «make_ip_frame», «make_udp_payload», «make_tcp_frame», checksum as rustChecksum}
 use Rattle.rules.specs.Rules.{unwritten}
+use Rattle.sums.specs.Rfc1071.{checksum}
 use Rattle.tcp.specs.Builders.{dataLimit, makeTcpFrame}
 use Rattle.tcp.specs.Rfc9293.{options, tcpFrame}
 use Rattle.tcp.proofs.TcpLaws.{length-tcpFrame}
 use Rattle.tcp.specs.declared.Endpoints.{Endpoints}
-use Rattle.equal.specs.Alike.{theEnds, leftBuilt, writtenAs, refusedAs}
+use Rattle.equal.specs.Alike.{theEnds, cameOfBuilder, writtenAs, refusedAs}
 use Rattle.equal.specs.Builders.{FrameEquals, DatagramEquals}
 use Rattle.equal.specs.Types.{Bytes, Array, GuestTyped, EndsTyped}
 use Rattle.equal.proofs.Operations.{ending, gives-one}
+use Rattle.equal.proofs.Sum.{rust-checksum}
 use Rattle.equal.proofs.Builders.{ip-frame-cut, ip-frame-given, udp-payload-cut, udp-payload-given}
 use Rattle.equal.proofs.TcpBuilder.{tcp-frame-cut, tcp-frame-given}
 
@@ -66,51 +68,51 @@ module _ {A : Type 0} (limit len : ℕ) (run : Run A) (value : A) (over : limit 
 module _ (guest : Guest) (limit len need : ℕ) (image : List ℕ) (run : Run Counted) (size : length image ≡ need) (over : limit < len → run ≡ cuts)
     (within : len ≤ limit → run ≡ gives (record { frame = image; counter = (guest .id + 1) % 65536 })) (before after : List ℕ) (answer : Answer)
     (m : Meets (spending guest limit len need (length before) image) before after answer) where
-  it-ended : Ended limit len run (record { frame = image; counter = (guest .id + 1) % 65536 }) over within
-  it-ended = ended limit len run (record { frame = image; counter = (guest .id + 1) % 65536 }) over within
+  run-ended : Ended limit len run (record { frame = image; counter = (guest .id + 1) % 65536 }) over within
+  run-ended = ended limit len run (record { frame = image; counter = (guest .id + 1) % 65536 }) over within
 
   frame-equals : FrameEquals guest run limit len before after answer
   unfolding spending building
   frame-equals =
       record {
         equal = λ made e room.
-            let g = it-ended .gives-there made e in
+            let g = run-ended .gives-there made e in
             let f = ap (λ (x : Counted). x .frame) (g .1) in
-            subst (λ (x : Counted). Meets (leftBuilt guest x) before after answer) (g .1)
+            subst (λ (x : Counted). Meets (cameOfBuilder guest x) before after answer) (g .1)
             (rw (le-ltb limit len (g .0), le-ltb (length before) need (omega (arith, room, size, ap length f)), ← size) at m);
         lacks-room = λ made e short.
-            let g = it-ended .gives-there made e in
+            let g = run-ended .gives-there made e in
             let f = ap (λ (x : Counted). x .frame) (g .1) in
             subst (λ (x : Counted). Meets (unwritten (5 ∷ length (x .frame) ∷ []) guest) before after answer) (g .1)
             (rw (le-ltb limit len (g .0), lt-ltb (length before) need (omega (arith, short, size, ap length f)), ← size) at m);
-        cuts-exactly = it-ended .cuts-there;
-        too-long = λ e. rw (lt-ltb limit len (it-ended .cuts-there .0 e)) at m;
-        never-panics = it-ended .no-panic;
-        ends = it-ended .no-more-turns;
+        cuts-exactly = run-ended .cuts-there;
+        too-long = λ e. rw (lt-ltb limit len (run-ended .cuts-there .0 e)) at m;
+        never-panics = run-ended .no-panic;
+        ends = run-ended .no-more-turns;
       }
 
 -- one that takes none
 module _ (limit len need : ℕ) (image : List ℕ) (run : Run (List ℕ)) (size : length image ≡ need) (over : limit < len → run ≡ cuts) (within : len ≤ limit → run ≡ gives image)
     (before after : List ℕ) (verdict : Verdict) (m : Wrote (building limit len need (length before) image) before after verdict) where
-  so-ended : Ended limit len run image over within
-  so-ended = ended limit len run image over within
+  run-ended′ : Ended limit len run image over within
+  run-ended′ = ended limit len run image over within
 
   datagram-equals : DatagramEquals run limit len before after verdict
   unfolding building
   datagram-equals =
       record {
         equal = λ built e room.
-            let g = so-ended .gives-there built e in
+            let g = run-ended′ .gives-there built e in
             subst (λ (x : List ℕ). Wrote (writtenAs x) before after verdict) (g .1)
             (rw (le-ltb limit len (g .0), le-ltb (length before) need (omega (arith, room, size, ap length (g .1))), ← size) at m);
         lacks-room = λ built e short.
-            let g = so-ended .gives-there built e in
+            let g = run-ended′ .gives-there built e in
             subst (λ (x : List ℕ). Wrote (refusedAs (5 ∷ length x ∷ [])) before after verdict) (g .1)
             (rw (le-ltb limit len (g .0), lt-ltb (length before) need (omega (arith, short, size, ap length (g .1))), ← size) at m);
-        cuts-exactly = so-ended .cuts-there;
-        too-long = λ e. rw (lt-ltb limit len (so-ended .cuts-there .0 e)) at m;
-        never-panics = so-ended .no-panic;
-        ends = so-ended .no-more-turns;
+        cuts-exactly = run-ended′ .cuts-there;
+        too-long = λ e. rw (lt-ltb limit len (run-ended′ .cuts-there .0 e)) at m;
+        never-panics = run-ended′ .no-panic;
+        ends = run-ended′ .no-more-turns;
       }
 
 -- The three builders, for all arguments that are what their types say.
@@ -143,3 +145,7 @@ module _ (before after : List ℕ) where
       (tcp-frame-cut (guest .id) ends seq ack flags (whole body) e)
       (tcp-frame-given (guest .id) ends seq ack flags (whole body) e (g .id) s a f b)
       before after answer
+
+-- the checksum, to 131,074 bytes: `r` is what `checksum` ensures
+pub checksum-equals : (s : List ℕ) (r : ℕ) → Bytes s → length s ≤ 131074 → r ≡ checksum s → rustChecksum (whole s) ≡ gives r
+checksum-equals s r b h e = rust-checksum s b h ∙ ap gives (sym e)

@@ -1,30 +1,71 @@
 -- What the Rust's run says of what is to come of the same frame, by how it ends.
-use Prim.Native.Nat.{ℕ, _+_, _≤_, _<_}
+use Prim.Native.Nat.{ℕ, _+_, _%_, _≤_, _<_}
 use mathlib.Core.Path.{_≡_, refl, ap, sym, subst, _∙_}
 use mathlib.Core.Logic.{_⊎_, inl, inr}
-use mathlib.Core.List.{List, [], _∷_}
+use mathlib.Core.List.{List, [], _∷_, _++_, append-nil}
 use native.Mathlib.Omega.{arith}
 use borrow.Author.Tests.{lt-ltb, le-ltb}
-use lib.ListN.{length, take, drop, length-take, length-drop}
-use Rattle.frames.specs.Answer.{Outcome, spent}
+use lib.ListN.{length, take, drop, length-take, length-drop, drop-of-length-le}
+use lib.Seq.{drop-append-seam}
+use Rattle.frames.specs.Answer.{Outcome}
 use Rattle.frames.specs.Network.{network}
 use Rattle.frames.specs.declared.answer.Guest.{Guest}
 use Rattle.published.specs.Rust.{Run, gives, panics, cuts, unfinished, whole}
-use Rattle.published.specs.Backend.{SlirpBackend}
+use Rattle.published.specs.Backend.{Call, «handle_tcp», SlirpBackend, withXid, pushed, calling}
 use Rattle.published.specs.Slirp.{send}
 use Rattle.rules.specs.Rfc792.{echo}
-use Rattle.rules.specs.Rules.{payload, decision, unwritten, framing, outcomeOf, outcome}
+use Rattle.rules.specs.Rules.{payload, decision, noting, unwritten, framing, outcomeOf, outcome}
 use Rattle.rules.specs.Seen.{CutMessage, TooLongPing}
 use Rattle.rules.specs.declared.decision.Decision.{Decision}
 use Rattle.rules.specs.declared.decision.Decision.the-variants.{Drop, DropNoting, ArpReply, EchoReply, DhcpReply, Dns, Relay, Tcp, TooLong, CutType}
 use Rattle.rules.proofs.Says.{Says, says}
 use Rattle.slirp.proofs.Echo.{length-echo}
 use Rattle.slirp.proofs.ReadBack.{arp-reads-back, echo-frame-reads-back, dhcp-reads-back}
-use Rattle.equal.specs.Alike.{backendOf, left}
+use Rattle.equal.specs.Alike.{recordOf, handoff, added, cameOf, Keeps, Handed, AllHanded}
 use Rattle.equal.specs.Types.{Bytes, GuestTyped}
 use Rattle.equal.specs.Where.{HeaderPast}
 use Rattle.equal.proofs.Lease.{four-bytes}
 use Rattle.equal.proofs.Ran.{Ran, send-ran}
+
+-- what a list has got
+none-added : {A : Type 0} (l : List A) → added l l ≡ []
+none-added l = drop-of-length-le l {i = length l} (omega arith)
+
+one-added : {A : Type 0} (l : List A) (x : A) → added l (l ++ (x ∷ [])) ≡ x ∷ []
+one-added l x = drop-append-seam l (x ∷ [])
+
+-- What a run that gives this backend says, with nothing, a frame or a call behind it: what came of it, that it keeps what was there, and what is handed over.
+record Came (self : SlirpBackend) (frame : List ℕ) (b : SlirpBackend) (o : Outcome) : Type 0 where
+  came : cameOf self b ≡ o
+  keeps : Keeps self b
+  handed : AllHanded frame (added (self .calls) (b .calls))
+
+module _ (self : SlirpBackend) (frame : List ℕ) where
+  came-quiet : (xid : ℕ) → Came self frame (withXid xid self) (unwritten (0 ∷ []) (noting xid (recordOf self)))
+  came-quiet xid =
+      record {
+        came = rw (none-added (self .«rx_pending»), none-added (self .calls));
+        keeps = record { pending = rw (none-added (self .«rx_pending»)) (sym (append-nil (self .«rx_pending»))); called = rw (none-added (self .calls)) (sym (append-nil (self .calls))) };
+        handed = rw (none-added (self .calls)) tt;
+      }
+
+  came-pushed : (image : List ℕ) (counter xid : ℕ)
+      → Came self frame (pushed image counter (withXid xid self))
+      (record { writing = record { numbers = 1 ∷ length image ∷ []; image = image }; guest = record { mac = self .«guest_mac»; id = counter; xid = xid } })
+  came-pushed image counter xid =
+      record {
+        came = rw (one-added (self .«rx_pending») image, none-added (self .calls));
+        keeps = record { pending = rw (one-added (self .«rx_pending») image); called = rw (none-added (self .calls)) (sym (append-nil (self .calls))) };
+        handed = rw (none-added (self .calls)) tt;
+      }
+
+  came-called : (call : Call) → Handed frame call → Came self frame (calling call self) (unwritten (handoff call) (recordOf self))
+  came-called call h =
+      record {
+        came = rw (none-added (self .«rx_pending»), one-added (self .calls) call);
+        keeps = record { pending = rw (none-added (self .«rx_pending»)) (sym (append-nil (self .«rx_pending»))); called = rw (one-added (self .calls) call) };
+        handed = rw (one-added (self .calls) call) (h, tt);
+      }
 
 -- a frame that is to be built, by the room
 module _ (guest next : Guest) (need room : ℕ) (image : List ℕ) (size : length image ≡ need) where
@@ -36,54 +77,69 @@ module _ (guest next : Guest) (need room : ℕ) (image : List ℕ) (size : lengt
   unfolding framing
   short h = rw (lt-ltb room need (omega arith), size)
 
-module _ (guest : Guest) (frame : List ℕ) (typed : GuestTyped guest) where
-  -- what a run that gives says of what is to come, by the room
-  abbrev pub ByRoom : (room : ℕ) → SlirpBackend → Outcome → Type 0
-  ByRoom room b o =
-      (length (left b .writing .image) ≤ room → o ≡ left b)
-      × (room < length (left b .writing .image) → o ≡ unwritten (5 ∷ length (left b .writing .image) ∷ []) guest)
+module _ (self : SlirpBackend) (frame : List ℕ) where
+  -- what is to come where the Rust panics
+  abbrev pub AtPanic : Outcome → Type 0
+  AtPanic o = (HeaderPast frame × (o ≡ unwritten (0 ∷ []) (recordOf self))) ⊎ ((place : ℕ) × CutMessage frame place × (o ≡ unwritten (7 ∷ place ∷ []) (recordOf self)))
 
-  -- what a run says of what is to come
+  -- what is to come with this room, where that came of the Rust's run
+  abbrev ByRoom : (room : ℕ) (came o : Outcome) → Type 0
+  ByRoom room came o =
+      (length (came .writing .image) ≤ room → o ≡ came) × (room < length (came .writing .image) → o ≡ unwritten (5 ∷ length (came .writing .image) ∷ []) (recordOf self))
+
+  -- what is to come with this room, by how the Rust's run ends
   abbrev pub Foretells : (room : ℕ) → Run SlirpBackend → Outcome → Type 0
-  Foretells room (gives b) o = ByRoom room b o
-  Foretells room panics o = (HeaderPast frame × (o ≡ unwritten (0 ∷ []) guest)) ⊎ ((place : ℕ) × CutMessage frame place × (o ≡ unwritten (7 ∷ place ∷ []) guest))
-  Foretells room cuts o = TooLongPing network frame (length (payload frame)) × (o ≡ unwritten (6 ∷ length (payload frame) ∷ []) guest)
+  Foretells room (gives b) o = Keeps self b × AllHanded frame (added (self .calls) (b .calls)) × ByRoom room (cameOf self b) o
+  Foretells room panics o = AtPanic o
+  Foretells room cuts o = TooLongPing network frame (length (payload frame)) × (o ≡ unwritten (6 ∷ length (payload frame) ∷ []) (recordOf self))
   Foretells room unfinished o = ⊥
 
   part-length : (start len : ℕ) → start + len ≤ length frame → len ≡ length (take len (drop start frame))
   part-length start len h = omega (arith, length-take len (drop start frame), length-drop start frame)
 
+  -- a part, taken by its own length
+  part-again : (start len : ℕ) → start + len ≤ length frame → take len (drop start frame) ≡ take (length (take len (drop start frame))) (drop start frame)
+  part-again start len h = ap (λ (n : ℕ). take n (drop start frame)) (part-length start len h)
+
   module _ (room : ℕ) (r : Run SlirpBackend) where
     by-run : (r′ : Run SlirpBackend) (o : Outcome) → r ≡ r′ → Foretells room r′ o → Foretells room r o
     by-run r′ o e = subst (λ (x : Run SlirpBackend). Foretells room x o) (sym e)
 
-    -- nothing is written: the room doesn't matter
-    quiet : (b : SlirpBackend) (o : Outcome) → r ≡ gives b → length (left b .writing .image) ≡ 0 → o ≡ left b → Foretells room r o
-    quiet b o e none same = by-run (gives b) o e ((λ h. same), (λ h. absurd (omega (arith, none, h))))
+    given : (b : SlirpBackend) (came o : Outcome) → r ≡ gives b → Came self frame b came → ByRoom room came o → Foretells room r o
+    given b came o e c by = by-run (gives b) o e (c .keeps, c .handed, subst (λ (x : Outcome). ByRoom room x o) (sym (c .came)) by)
 
-    foretold : (d : Decision) → Says network frame d → Ran guest frame r d → Foretells room r (outcomeOf network guest frame room d)
+    -- nothing is written: the room doesn't matter
+    quiet : (b : SlirpBackend) (numbers : List ℕ) (guest : Guest) (o : Outcome) → r ≡ gives b → Came self frame b (unwritten numbers guest) → o ≡ unwritten numbers guest → Foretells room r o
+    quiet b numbers guest o e c same = given b (unwritten numbers guest) o e c ((λ h. same), (λ h. absurd (omega arith)))
+
+    foretold : GuestTyped (recordOf self) → (d : Decision) → Says network frame d → Ran self frame r d → Foretells room r (outcomeOf network (recordOf self) frame room d)
     unfolding Ran Says outcomeOf
-    foretold Drop s (inl e) = quiet _ _ e refl refl
-    foretold Drop s (inr (h, e)) = by-run panics _ e (inl (h, refl))
-    foretold (DropNoting xid) s e = quiet _ _ e refl refl
-    foretold ArpReply s e =
+    foretold typed Drop s (inl e) = quiet self _ _ _ e (came-quiet self frame (self .«dhcp_xid»)) refl
+    foretold typed Drop s (inr (h, e)) = by-run panics _ e (inl (h, refl))
+    foretold typed (DropNoting xid) s e = quiet _ _ _ _ e (came-quiet self frame xid) refl
+    foretold typed ArpReply s e =
         let size = arp-reads-back network frame refl .long in
-        by-run _ _ e (fits guest guest 42 room _ size, short guest guest 42 room _ size)
-    foretold (EchoReply start) s e =
+        given _ _ _ e (came-pushed self frame _ (self .counter) (self .«dhcp_xid»)) (fits _ _ 42 room _ size, short _ _ 42 room _ size)
+    foretold typed (EchoReply start) s e =
         let eight = subst (λ (n : ℕ). 8 ≤ length (drop n frame)) (sym (s .1)) (s .0 .whole) in
         let size =
-        echo-frame-reads-back network (guest .id) frame (echo (drop start frame)) refl .long ∙ ap (λ (n : ℕ). 34 + n) (length-echo (drop start frame) (omega (arith, eight))) in
-        by-run _ _ e (fits guest (spent guest) _ room _ size, short guest (spent guest) _ room _ size)
-    foretold (DhcpReply xid type) s e =
-        let size = dhcp-reads-back network guest frame xid type four-bytes (typed .mac .long) .long in
-        by-run _ _ e (fits guest _ 342 room _ size, short guest _ 342 room _ size)
-    foretold (Dns start len) s e = quiet _ _ e refl (ap (λ (n : ℕ). unwritten (2 ∷ start ∷ n ∷ []) guest) (part-length start len (s .handed .inside)))
-    foretold (Relay start len) s e = quiet _ _ e refl (ap (λ (n : ℕ). unwritten (3 ∷ start ∷ n ∷ []) guest) (part-length start len (s .handed .inside)))
-    foretold (Tcp len) s e = quiet _ _ (e .1) refl (ap (λ (n : ℕ). unwritten (4 ∷ n ∷ []) guest) (e .0))
-    foretold (TooLong len) s e = by-run cuts _ e (subst (TooLongPing network frame) (s .its-length) s, ap (λ (n : ℕ). unwritten (6 ∷ n ∷ []) guest) (s .its-length))
-    foretold (CutType place) s e = by-run panics _ e (inr (place, s, refl))
+        echo-frame-reads-back network (self .counter) frame (echo (drop start frame)) refl .long ∙ ap (λ (n : ℕ). 34 + n) (length-echo (drop start frame) (omega (arith, eight))) in
+        given _ _ _ e (came-pushed self frame _ ((self .counter + 1) % 65536) (self .«dhcp_xid»)) (fits _ _ _ room _ size, short _ _ _ room _ size)
+    foretold typed (DhcpReply xid type) s e =
+        let size = dhcp-reads-back network (recordOf self) frame xid type four-bytes (typed .mac .long) .long in
+        given _ _ _ e (came-pushed self frame _ ((self .counter + 1) % 65536) xid) (fits _ _ 342 room _ size, short _ _ 342 room _ size)
+    foretold typed (Dns start len) s e =
+        let inside = s .handed .inside in
+        quiet _ _ _ _ e (came-called self frame _ (part-again start len inside, refl, refl, refl)) (ap (λ (n : ℕ). unwritten (2 ∷ start ∷ n ∷ []) (recordOf self)) (part-length start len inside))
+    foretold typed (Relay start len) s e =
+        let inside = s .handed .inside in
+        quiet _ _ _ _ e (came-called self frame _ (part-again start len inside, refl, refl, refl, refl, refl)) (ap (λ (n : ℕ). unwritten (3 ∷ start ∷ n ∷ []) (recordOf self)) (part-length start len inside))
+    foretold typed (Tcp len) s e = quiet _ _ _ _ (e .1) (came-called self frame («handle_tcp» (whole frame)) refl) (ap (λ (n : ℕ). unwritten (4 ∷ n ∷ []) (recordOf self)) (e .0))
+    foretold typed (TooLong len) s e =
+        by-run cuts _ e (subst (TooLongPing network frame) (s .its-length) s, ap (λ (n : ℕ). unwritten (6 ∷ n ∷ []) (recordOf self)) (s .its-length))
+    foretold typed (CutType place) s e = by-run panics _ e (inr (place, s, refl))
 
   -- the Rust's run, and what is to come of the same frame with this room
-  pub foretells : (room : ℕ) → Bytes frame → Foretells room (send (backendOf guest) (whole frame)) (outcome network guest frame room)
+  pub foretells : GuestTyped (recordOf self) → Bytes frame → (room : ℕ) → Foretells room (send self (whole frame)) (outcome network (recordOf self) frame room)
   unfolding outcome
-  foretells room bytes = foretold room _ (decision network frame) (says network frame) (send-ran guest frame typed bytes)
+  foretells typed bytes room = foretold room (send self (whole frame)) typed (decision network frame) (says network frame) (send-ran self frame typed bytes)

@@ -14,7 +14,6 @@ use Rattle.fields.specs.Rfc894.{sourceMac}
 use Rattle.frames.specs.Network.{network, gatewayMac}
 use Rattle.frames.specs.Rfc768.{datagram}
 use Rattle.frames.specs.Rfc791.{header, ipFrame}
-use Rattle.frames.specs.declared.answer.Guest.{Guest}
 use Rattle.frames.proofs.Lengths.{length-datagram}
 use Rattle.rules.specs.Rfc2131.{dhcpFrame}
 use Rattle.frames.proofs.Lists.{all-bytes}
@@ -23,12 +22,12 @@ use Rattle.options.proofs.Places.{walkAt, past-end, at-255, at-0, at-last, at-o
 use Rattle.rules.proofs.Same.{both-left, both-right}
 use Rattle.published.specs.Rust.{Run, gives, panics, Slice, whole, lenOf, zeros, store, copy, u32ToBe}
 use Rattle.published.specs.Frames.{«BCAST_MAC», «BCAST_IP», «GW_IP»}
-use Rattle.published.specs.Backend.{withXid, pushed}
+use Rattle.published.specs.Backend.{SlirpBackend, withXid, pushed}
 use Rattle.published.specs.Dhcp.{scan, «message_type», «build_reply», «send_dhcp_reply»}
 use Rattle.equal.proofs.Operations.{index-in, index-past, array-of, copy-over, be32-bytes}
 use Rattle.equal.proofs.Builders.{ip-frame-given, udp-payload-given}
 use Rattle.equal.proofs.Fields.{eth-src}
-use Rattle.equal.specs.Alike.{backendOf}
+use Rattle.equal.specs.Alike.{recordOf}
 use Rattle.equal.specs.Types.{GuestTyped}
 
 -- the walk, as the Rust comes to it
@@ -122,20 +121,20 @@ pub four-bytes : FourBytes network
 four-bytes = record { gateway = refl; guest = refl; mask = refl }
 
 -- The frame of a reply: built for the broadcast MAC, then sent to the frame's own source.
-module _ (guest : Guest) (frame : List ℕ) (typed : GuestTyped guest) (long : 34 ≤ length frame) (xid type : ℕ) where
-  pub lease-sent : «send_dhcp_reply» (withXid xid (backendOf guest)) (whole frame) xid type
-      ≡ gives (pushed (dhcpFrame network guest frame xid type) ((guest .id + 1) % 65536) (withXid xid (backendOf guest)))
+module _ (self : SlirpBackend) (frame : List ℕ) (typed : GuestTyped (recordOf self)) (long : 34 ≤ length frame) (xid type : ℕ) where
+  pub lease-sent : «send_dhcp_reply» (withXid xid self) (whole frame) xid type
+      ≡ gives (pushed (dhcpFrame network (recordOf self) frame xid type) ((self .counter + 1) % 65536) (withXid xid self))
   unfolding «send_dhcp_reply» dhcpFrame ipFrame
   lease-sent =
-      let message = reply network (guest .mac) xid type in
+      let message = reply network (self .«guest_mac») xid type in
       let whole-datagram = datagram 68 67 message in
-      let size : length message ≡ 300 = reply-reads-back network (guest .mac) xid type four-bytes (typed .mac .long) .long in
+      let size : length message ≡ 300 = reply-reads-back network (self .«guest_mac») xid type four-bytes (typed .mac .long) .long in
       rw (
         eth-src frame (omega arith),
         array-of (record { start = 6; bytes = sourceMac frame }) 6 refl,
-        build-reply-given xid type (guest .mac) (typed .mac .long),
+        build-reply-given xid type (self .«guest_mac») (typed .mac .long),
         udp-payload-given 68 67 (whole message) (omega (arith, size)),
-        ip-frame-given (guest .id) 17 «BCAST_MAC» «GW_IP» «BCAST_IP» (whole whole-datagram) refl refl refl (typed .id) (omega arith)
+        ip-frame-given (self .counter) 17 «BCAST_MAC» «GW_IP» «BCAST_IP» (whole whole-datagram) refl refl refl (typed .id) (omega arith)
             (omega arith, (omega arith, (omega arith, (omega arith, tt)))) (omega arith, (omega arith, (omega arith, (omega arith, tt)))) (omega (arith, size, length-datagram 68 67 message)),
-        copy-over [] «BCAST_MAC» (gatewayMac ++ be16 0x0800 ++ header (20 + length whole-datagram) (guest .id) 17 «GW_IP» «BCAST_IP» ++ whole-datagram) (sourceMac frame) 0 6 refl refl refl,
+        copy-over [] «BCAST_MAC» (gatewayMac ++ be16 0x0800 ++ header (20 + length whole-datagram) (self .counter) 17 «GW_IP» «BCAST_IP» ++ whole-datagram) (sourceMac frame) 0 6 refl refl refl,
       )

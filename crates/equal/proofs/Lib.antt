@@ -6,7 +6,7 @@ pub mod Fields
 pub mod Lease
 pub mod Ping
 pub mod Ran
-pub mod Exactly
+pub mod OnAll
 pub mod Foretold
 pub mod Demand2
 pub mod Smallest

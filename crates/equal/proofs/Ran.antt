@@ -20,7 +20,6 @@ use Rattle.fields.specs.Rfc894.{body, typeOf, sourceMac}
 use Rattle.fields.specs.Rfc2131 as Dhcp
 use Rattle.frames.specs.Network.{network}
 use Rattle.frames.specs.Pick.{pick}
-use Rattle.frames.specs.declared.answer.Guest.{Guest}
 use Rattle.frames.proofs.Lists.{from-on}
 use Rattle.options.specs.Rfc2132.{Walked, typed, cut, walk}
 use Rattle.published.specs.Rust.{Run, gives, panics, cuts, _▹_, Slice, whole, range, store, copy, sameArray, u32FromBe}
@@ -38,7 +37,7 @@ use Rattle.rules.specs.declared.decision.Decision.{Decision}
 use Rattle.rules.specs.declared.decision.Decision.the-variants.{Drop, DropNoting, ArpReply, EchoReply, DhcpReply, Dns, Relay, Tcp, TooLong, CutType}
 use Rattle.rules.proofs.Same.{same-equal}
 use Rattle.rules.proofs.Says.{either}
-use Rattle.equal.specs.Alike.{backendOf}
+use Rattle.equal.specs.Alike.{recordOf}
 use Rattle.equal.specs.Types.{Bytes, GuestTyped}
 use Rattle.equal.specs.Where.{HeaderPast}
 use Rattle.equal.proofs.Operations.{index-in, range-in, array-of, bytes-drop}
@@ -47,19 +46,19 @@ use Rattle.equal.proofs.Ping.{answered, ping-cut, ping-answered}
 use Rattle.equal.proofs.Fields.{range-at, u16be-in, eth-src, eth-type, ip-proto, ip-src, ip-dst, payload-there, payload-past}
 
 -- what a run comes to, by the decision
-unfoldable pub Ran : Guest → (frame : List ℕ) → Run SlirpBackend → Decision → Type 0
-Ran guest frame r Drop = (r ≡ gives (backendOf guest)) ⊎ (HeaderPast frame × (r ≡ panics))
-Ran guest frame r (DropNoting xid) = r ≡ gives (withXid xid (backendOf guest))
-Ran guest frame r ArpReply = r ≡ gives (pushed (arpReply network frame) (guest .id) (backendOf guest))
-Ran guest frame r (EchoReply start) = r ≡ gives (pushed (echoFrame network guest frame start) ((guest .id + 1) % 65536) (backendOf guest))
-Ran guest frame r (DhcpReply xid type) = r ≡ gives (pushed (dhcpFrame network guest frame xid type) ((guest .id + 1) % 65536) (withXid xid (backendOf guest)))
-Ran guest frame r (Dns start len) =
-    r ≡ gives (calling («handle_dns» (record { start = start; bytes = take len (drop start frame) }) (sourceMac frame) (sourceOf (body frame)) (sourcePort (payload frame))) (backendOf guest))
-Ran guest frame r (Relay start len) =
-    r ≡ gives (calling («relay_datagram» (sourceMac frame) (sourceOf (body frame)) (sourcePort (payload frame)) (targetOf (body frame)) (targetPort (payload frame)) (record { start = start; bytes = take len (drop start frame) })) (backendOf guest))
-Ran guest frame r (Tcp len) = (len ≡ length frame) × (r ≡ gives (calling («handle_tcp» (whole frame)) (backendOf guest)))
-Ran guest frame r (TooLong len) = r ≡ cuts
-Ran guest frame r (CutType place) = r ≡ panics
+unfoldable pub Ran : (self : SlirpBackend) (frame : List ℕ) → Run SlirpBackend → Decision → Type 0
+Ran self frame r Drop = (r ≡ gives self) ⊎ (HeaderPast frame × (r ≡ panics))
+Ran self frame r (DropNoting xid) = r ≡ gives (withXid xid self)
+Ran self frame r ArpReply = r ≡ gives (pushed (arpReply network frame) (self .counter) self)
+Ran self frame r (EchoReply start) = r ≡ gives (pushed (echoFrame network (recordOf self) frame start) ((self .counter + 1) % 65536) self)
+Ran self frame r (DhcpReply xid type) = r ≡ gives (pushed (dhcpFrame network (recordOf self) frame xid type) ((self .counter + 1) % 65536) (withXid xid self))
+Ran self frame r (Dns start len) =
+    r ≡ gives (calling («handle_dns» (record { start = start; bytes = take len (drop start frame) }) (sourceMac frame) (sourceOf (body frame)) (sourcePort (payload frame))) self)
+Ran self frame r (Relay start len) =
+    r ≡ gives (calling («relay_datagram» (sourceMac frame) (sourceOf (body frame)) (sourcePort (payload frame)) (targetOf (body frame)) (targetPort (payload frame)) (record { start = start; bytes = take len (drop start frame) })) self)
+Ran self frame r (Tcp len) = (len ≡ length frame) × (r ≡ gives (calling («handle_tcp» (whole frame)) self))
+Ran self frame r (TooLong len) = r ≡ cuts
+Ran self frame r (CutType place) = r ≡ panics
 
 -- two choices by one test
 both : (P : Run SlirpBackend → Decision → Type 0) (t : Bool) (r r′ : Run SlirpBackend) (d d′ : Decision) → (t ≡ true → P r d) → (t ≡ false → P r′ d′) → P (cond t r r′) (pick t d d′)
@@ -93,31 +92,31 @@ smaller stated there = go (ltb there stated) refl
     go true e = rw e (omega (arith, ltb-true there stated e))
     go false e = rw e (omega (arith, ltb-false there stated e))
 
-module _ (guest : Guest) (frame : List ℕ) where
-  dropped : Ran guest frame (gives (backendOf guest)) Drop
+module _ (self : SlirpBackend) (frame : List ℕ) where
+  dropped : Ran self frame (gives self) Drop
   unfolding Ran
   dropped = inl refl
 
-  arp-replied : Ran guest frame
-      (gives (pushed (replyTo (network .gateway) (Arp.senderMac (body frame)) (Arp.senderAddress (body frame))) (guest .id) (backendOf guest))) ArpReply
+  arp-replied : Ran self frame
+      (gives (pushed (replyTo (network .gateway) (Arp.senderMac (body frame)) (Arp.senderAddress (body frame))) (self .counter) self)) ArpReply
   unfolding Ran
   arp-replied = refl
 
-  arp-ran : Ran guest frame («handle_arp» (backendOf guest) (whole frame)) (arpDecision network frame)
+  arp-ran : Ran self frame («handle_arp» self (whole frame)) (arpDecision network frame)
   unfolding «handle_arp» arpDecision copy store replyTo
   arp-ran =
-      both (Ran guest frame) (ltb (length frame) 42) _ _ _ _ (λ e. dropped) (λ e.
+      both (Ran self frame) (ltb (length frame) 42) _ _ _ _ (λ e. dropped) (λ e.
       let long = ltb-false (length frame) 42 e in
       let arp : Slice = record { start = 14; bytes = body frame } in
       let behind : length (body frame) ≡ length frame - 14 = length-drop 14 frame in
       rw (range-in (whole frame) 14 (length frame) (omega (arith, long)) (omega arith), from-on 14 frame, u16be-in arp 6 (omega (arith, long, behind)))
-      (both (Ran guest frame) (not (eqb (Arp.operation (body frame)) 1)) _ _ _ _ (λ f. dropped) (λ f.
+      (both (Ran self frame) (not (eqb (Arp.operation (body frame)) 1)) _ _ _ _ (λ f. dropped) (λ f.
       rw (
         range-at arp 24 4 (omega (arith, long, behind)),
         array-of (record { start = 38; bytes = Arp.soughtAddress (body frame) }) 4 refl,
         same-array (Arp.soughtAddress (body frame)) (network .gateway),
       )
-      (both (Ran guest frame) (not (same (Arp.soughtAddress (body frame)) (network .gateway))) _ _ _ _ (λ g. dropped) (λ g.
+      (both (Ran self frame) (not (same (Arp.soughtAddress (body frame)) (network .gateway))) _ _ _ _ (λ g. dropped) (λ g.
       rw (
         range-at arp 8 6 (omega (arith, long, behind)),
         array-of (record { start = 22; bytes = Arp.senderMac (body frame) }) 6 refl,
@@ -126,27 +125,27 @@ module _ (guest : Guest) (frame : List ℕ) where
       )
       arp-replied)))))
 
-module _ (guest : Guest) (frame : List ℕ) (as-typed : GuestTyped guest) (bytes : Bytes frame) where
-  panicked : HeaderPast frame → Ran guest frame panics Drop
+module _ (self : SlirpBackend) (frame : List ℕ) (as-typed : GuestTyped (recordOf self)) (bytes : Bytes frame) where
+  panicked : HeaderPast frame → Ran self frame panics Drop
   unfolding Ran
   panicked h = inr (h, refl)
 
-  echoed : (r : Run SlirpBackend) → r ≡ gives (pushed (echoFrame network guest frame (payloadAt frame)) ((guest .id + 1) % 65536) (backendOf guest))
-      → Ran guest frame r (EchoReply (payloadAt frame))
+  echoed : (r : Run SlirpBackend) → r ≡ gives (pushed (echoFrame network (recordOf self) frame (payloadAt frame)) ((self .counter + 1) % 65536) self)
+      → Ran self frame r (EchoReply (payloadAt frame))
   unfolding Ran
   echoed r e = e
 
-  cut-short : (r : Run SlirpBackend) (len : ℕ) → r ≡ cuts → Ran guest frame r (TooLong len)
+  cut-short : (r : Run SlirpBackend) (len : ℕ) → r ≡ cuts → Ran self frame r (TooLong len)
   unfolding Ran
   cut-short r len e = e
 
-  icmp-ran : Carries frame 1 → Ran guest frame («handle_icmp» (backendOf guest) (whole frame)) (icmpDecision network frame)
+  icmp-ran : Carries frame 1 → Ran self frame («handle_icmp» self (whole frame)) (icmpDecision network frame)
   unfolding «handle_icmp» icmpDecision
   icmp-ran icmp =
       let long = icmp .long in
       rw (ip-dst frame long, same-array (targetOf (body frame)) (network .gateway))
-      (both (Ran guest frame) (not (same (targetOf (body frame)) (network .gateway))) _ _ _ _ (λ e. dropped guest frame) (λ e.
-      either (Ran guest frame _) (ltb (length frame) (payloadAt frame)) _ _
+      (both (Ran self frame) (not (same (targetOf (body frame)) (network .gateway))) _ _ _ _ (λ e. dropped self frame) (λ e.
+      either (Ran self frame _) (ltb (length frame) (payloadAt frame)) _ _
       (λ f.
       let past = ltb-true (length frame) (payloadAt frame) f in
       rw (payload-past frame (omega (arith, long)) past) (panicked (record { read = inl (icmp, same-equal _ _ (not-false _ e)); past = past })))
@@ -154,58 +153,58 @@ module _ (guest : Guest) (frame : List ℕ) (as-typed : GuestTyped guest) (bytes
       let there = ltb-false (length frame) (payloadAt frame) f in
       let payload′ : Slice = record { start = payloadAt frame; bytes = payload frame } in
       rw (payload-there frame (omega (arith, long)) there)
-      (both (Ran guest frame) (ltb (length (payload frame)) 8) _ _ _ _ (λ g. dropped guest frame) (λ g.
+      (both (Ran self frame) (ltb (length (payload frame)) 8) _ _ _ _ (λ g. dropped self frame) (λ g.
       let eight = ltb-false (length (payload frame)) 8 g in
       rw (index-in payload′ 0 (omega (arith, eight)))
-      (both (Ran guest frame) (not (eqb (messageType (payload frame)) 8)) _ _ _ _ (λ k. dropped guest frame) (λ k.
-      either (Ran guest frame (answered (backendOf guest) frame payload′)) (ltb 65515 (length (payload frame))) _ _
-      (λ over. cut-short _ _ (ping-cut (backendOf guest) frame payload′ long eight (ltb-true 65515 (length (payload frame)) over)))
+      (both (Ran self frame) (not (eqb (messageType (payload frame)) 8)) _ _ _ _ (λ k. dropped self frame) (λ k.
+      either (Ran self frame (answered self frame payload′)) (ltb 65515 (length (payload frame))) _ _
+      (λ over. cut-short _ _ (ping-cut self frame payload′ long eight (ltb-true 65515 (length (payload frame)) over)))
       (λ within.
-      echoed _ (ping-answered (backendOf guest) frame payload′ long eight (as-typed .id) bytes (bytes-drop (payloadAt frame) frame bytes) (ltb-false 65515 (length (payload frame)) within))))))))))
+      echoed _ (ping-answered self frame payload′ long eight (as-typed .id) bytes (bytes-drop (payloadAt frame) frame bytes) (ltb-false 65515 (length (payload frame)) within))))))))))
 
-  noted : (xid : ℕ) → Ran guest frame (gives (withXid xid (backendOf guest))) (DropNoting xid)
+  noted : (xid : ℕ) → Ran self frame (gives (withXid xid self)) (DropNoting xid)
   unfolding Ran
   noted xid = refl
 
-  leased : (r : Run SlirpBackend) (xid type : ℕ) → r ≡ gives (pushed (dhcpFrame network guest frame xid type) ((guest .id + 1) % 65536) (withXid xid (backendOf guest)))
-      → Ran guest frame r (DhcpReply xid type)
+  leased : (r : Run SlirpBackend) (xid type : ℕ) → r ≡ gives (pushed (dhcpFrame network (recordOf self) frame xid type) ((self .counter + 1) % 65536) (withXid xid self))
+      → Ran self frame r (DhcpReply xid type)
   unfolding Ran
   leased r xid type e = e
 
-  type-cut : (place : ℕ) → Ran guest frame panics (CutType place)
+  type-cut : (place : ℕ) → Ran self frame panics (CutType place)
   unfolding Ran
   type-cut place = refl
 
   -- the end of `handle_dhcp`, by the walk
   type-ran : 34 ≤ length frame → (xid : ℕ) (w : Walked)
-      → Ran guest frame
+      → Ran self frame
       (ran w ▹ λ type.
-      cond (eqb type 1) («send_dhcp_reply» (withXid xid (backendOf guest)) (whole frame) xid 2)
-      (cond (eqb type 3) («send_dhcp_reply» (withXid xid (backendOf guest)) (whole frame) xid 5)
-      (gives (withXid xid (backendOf guest)))))
+      cond (eqb type 1) («send_dhcp_reply» (withXid xid self) (whole frame) xid 2)
+      (cond (eqb type 3) («send_dhcp_reply» (withXid xid self) (whole frame) xid 5)
+      (gives (withXid xid self))))
       (typeDecision xid w)
   type-ran long xid (cut place) = type-cut place
   type-ran long xid (typed type) = go (eqb type 1) (eqb type 3)
     where
       go : (one three : Bool)
-          → Ran guest frame
-          (cond one («send_dhcp_reply» (withXid xid (backendOf guest)) (whole frame) xid 2)
-          (cond three («send_dhcp_reply» (withXid xid (backendOf guest)) (whole frame) xid 5)
-          (gives (withXid xid (backendOf guest)))))
+          → Ran self frame
+          (cond one («send_dhcp_reply» (withXid xid self) (whole frame) xid 2)
+          (cond three («send_dhcp_reply» (withXid xid self) (whole frame) xid 5)
+          (gives (withXid xid self))))
           (pick (eqb (pick one 2 (pick three 5 0)) 0) (DropNoting xid) (DhcpReply xid (pick one 2 (pick three 5 0))))
-      go true three = leased _ xid 2 (lease-sent guest frame as-typed long xid 2)
-      go false true = leased _ xid 5 (lease-sent guest frame as-typed long xid 5)
+      go true three = leased _ xid 2 (lease-sent self frame as-typed long xid 2)
+      go false true = leased _ xid 5 (lease-sent self frame as-typed long xid 5)
       go false false = noted xid
 
   dhcp-ran : 34 ≤ length frame → (start : ℕ) (message : List ℕ)
-      → Ran guest frame («handle_dhcp» (backendOf guest) (whole frame) (record { start = start; bytes = message })) (dhcpDecision message)
+      → Ran self frame («handle_dhcp» self (whole frame) (record { start = start; bytes = message })) (dhcpDecision message)
   unfolding «handle_dhcp» dhcpDecision
   dhcp-ran long start message =
       let dhcp : Slice = record { start = start; bytes = message } in
-      both (Ran guest frame) (ltb (length message) 240) _ _ _ _ (λ e. dropped guest frame) (λ e.
+      both (Ran self frame) (ltb (length message) 240) _ _ _ _ (λ e. dropped self frame) (λ e.
       let fixed = ltb-false (length message) 240 e in
       rw (index-in dhcp 0 (omega (arith, fixed)))
-      (both (Ran guest frame) (not (eqb (Dhcp.operation message) 1)) _ _ _ _ (λ f. dropped guest frame) (λ f.
+      (both (Ran self frame) (not (eqb (Dhcp.operation message) 1)) _ _ _ _ (λ f. dropped self frame) (λ f.
       rw (
         range-at dhcp 4 4 (omega (arith, fixed)),
         array-of (record { start = start + 4; bytes = bytesAt message 4 4 }) 4 refl,
@@ -214,23 +213,23 @@ module _ (guest : Guest) (frame : List ℕ) (as-typed : GuestTyped guest) (bytes
         from-be message 4,
         from-be message 236,
       )
-      (both (Ran guest frame) (not (eqb (Dhcp.magicCookie message) 0x63825363)) _ _ _ _ (λ g. noted (Dhcp.transactionId message)) (λ g.
+      (both (Ran self frame) (not (eqb (Dhcp.magicCookie message) 0x63825363)) _ _ _ _ (λ g. noted (Dhcp.transactionId message)) (λ g.
       rw (message-type-walks dhcp) (type-ran long (Dhcp.transactionId message) (walk message)))))))
 
   named : (start len : ℕ)
-      → Ran guest frame
-      (gives (calling («handle_dns» (record { start = start; bytes = take len (drop start frame) }) (sourceMac frame) (sourceOf (body frame)) (sourcePort (payload frame))) (backendOf guest)))
+      → Ran self frame
+      (gives (calling («handle_dns» (record { start = start; bytes = take len (drop start frame) }) (sourceMac frame) (sourceOf (body frame)) (sourcePort (payload frame))) self))
       (Dns start len)
   unfolding Ran
   named start len = refl
 
   relayed : (start len : ℕ)
-      → Ran guest frame
+      → Ran self frame
       (gives
       (calling
       («relay_datagram» (sourceMac frame) (sourceOf (body frame)) (sourcePort (payload frame)) (targetOf (body frame)) (targetPort (payload frame))
       (record { start = start; bytes = take len (drop start frame) }))
-      (backendOf guest)))
+      self))
       (Relay start len)
   unfolding Ran
   relayed start len = refl
@@ -254,11 +253,11 @@ module _ (guest : Guest) (frame : List ℕ) (as-typed : GuestTyped guest) (bytes
       reaches : (8 ≤ dataEnd (payload frame)) × (dataEnd (payload frame) ≤ length (payload frame))
       reaches = go (ltb (length (payload frame)) (lengthField (payload frame))) refl
 
-  udp-ran : Carries frame 17 → Ran guest frame («handle_udp» (backendOf guest) (whole frame)) (udpDecision network frame)
+  udp-ran : Carries frame 17 → Ran self frame («handle_udp» self (whole frame)) (udpDecision network frame)
   unfolding «handle_udp» udpDecision
   udp-ran udp =
       let long = udp .long in
-      either (Ran guest frame _) (ltb (length frame) (payloadAt frame)) _ _
+      either (Ran self frame _) (ltb (length frame) (payloadAt frame)) _ _
       (λ f.
       let past = ltb-true (length frame) (payloadAt frame) f in
       rw (payload-past frame (omega (arith, long)) past) (panicked (record { read = inr udp; past = past })))
@@ -266,10 +265,10 @@ module _ (guest : Guest) (frame : List ℕ) (as-typed : GuestTyped guest) (bytes
       let there = ltb-false (length frame) (payloadAt frame) f in
       let payload′ : Slice = record { start = payloadAt frame; bytes = payload frame } in
       rw (payload-there frame (omega (arith, long)) there)
-      (both (Ran guest frame) (ltb (length (payload frame)) 8) _ _ _ _ (λ g. dropped guest frame) (λ g.
+      (both (Ran self frame) (ltb (length (payload frame)) 8) _ _ _ _ (λ g. dropped self frame) (λ g.
       let eight = ltb-false (length (payload frame)) 8 g in
       rw (u16be-in payload′ 0 (omega (arith, eight)), u16be-in payload′ 2 (omega (arith, eight)), u16be-in payload′ 4 (omega (arith, eight)))
-      (both (Ran guest frame) (ltb (lengthField (payload frame)) 8) _ _ _ _ (λ k. dropped guest frame) (λ k.
+      (both (Ran self frame) (ltb (lengthField (payload frame)) 8) _ _ _ _ (λ k. dropped self frame) (λ k.
       rw (
         ip-dst frame long,
         ip-src frame long,
@@ -278,35 +277,35 @@ module _ (guest : Guest) (frame : List ℕ) (as-typed : GuestTyped guest) (bytes
         data-part there eight (ltb-false (lengthField (payload frame)) 8 k),
         and-swap (eqb (targetPort (payload frame)) 67) (eqb (sourcePort (payload frame)) 68),
       )
-      (both (Ran guest frame) (eqb (sourcePort (payload frame)) 68 && eqb (targetPort (payload frame)) 67) _ _ _ _
+      (both (Ran self frame) (eqb (sourcePort (payload frame)) 68 && eqb (targetPort (payload frame)) 67) _ _ _ _
       (λ l. dhcp-ran long (dataAt frame) (datagramData frame))
       (λ l.
       rw (same-array (targetOf (body frame)) (network .gateway))
-      (both (Ran guest frame) (same (targetOf (body frame)) (network .gateway) && eqb (targetPort (payload frame)) 53) _ _ _ _
+      (both (Ran self frame) (same (targetOf (body frame)) (network .gateway) && eqb (targetPort (payload frame)) 53) _ _ _ _
       (λ m. named (dataAt frame) (dataLength frame)) (λ m. relayed (dataAt frame) (dataLength frame))))))))))
 
-  handed-on : Ran guest frame (gives (calling («handle_tcp» (whole frame)) (backendOf guest))) (Tcp (length frame))
+  handed-on : Ran self frame (gives (calling («handle_tcp» (whole frame)) self)) (Tcp (length frame))
   unfolding Ran
   handed-on = (refl, refl)
 
-  ip-ran : typeOf frame ≡ 0x0800 → Ran guest frame («handle_ip» (backendOf guest) (whole frame)) (ipDecision network frame)
+  ip-ran : typeOf frame ≡ 0x0800 → Ran self frame («handle_ip» self (whole frame)) (ipDecision network frame)
   unfolding «handle_ip» ipDecision
   ip-ran ipv4 =
-      both (Ran guest frame) (ltb (length frame) 34) _ _ _ _ (λ e. dropped guest frame) (λ e.
+      both (Ran self frame) (ltb (length frame) 34) _ _ _ _ (λ e. dropped self frame) (λ e.
       let long = ltb-false (length frame) 34 e in
       let proto = protocolOf (body frame) in
       let carries : (n : ℕ) → eqb proto n ≡ true → Carries frame n = λ n f. record { long = long; ipv4 = ipv4; carried = eqb-true proto n f } in
       rw (ip-proto frame (omega (arith, long)))
-      (both (Ran guest frame) (eqb proto 1) _ _ _ _ (λ f. icmp-ran (carries 1 f)) (λ f.
-      both (Ran guest frame) (eqb proto 6) _ _ _ _ (λ g. handed-on) (λ g.
-      both (Ran guest frame) (eqb proto 17) _ _ _ _ (λ k. udp-ran (carries 17 k)) (λ k. dropped guest frame)))))
+      (both (Ran self frame) (eqb proto 1) _ _ _ _ (λ f. icmp-ran (carries 1 f)) (λ f.
+      both (Ran self frame) (eqb proto 6) _ _ _ _ (λ g. handed-on) (λ g.
+      both (Ran self frame) (eqb proto 17) _ _ _ _ (λ k. udp-ran (carries 17 k)) (λ k. dropped self frame)))))
 
   -- the whole call
-  pub send-ran : Ran guest frame (send (backendOf guest) (whole frame)) (decision network frame)
+  pub send-ran : Ran self frame (send self (whole frame)) (decision network frame)
   unfolding send decision
   send-ran =
-      both (Ran guest frame) (ltb (length frame) 14) _ _ _ _ (λ e. dropped guest frame) (λ e.
+      both (Ran self frame) (ltb (length frame) 14) _ _ _ _ (λ e. dropped self frame) (λ e.
       let long = ltb-false (length frame) 14 e in
       rw (eth-type frame long)
-      (both (Ran guest frame) (eqb (typeOf frame) 0x0806) _ _ _ _ (λ f. arp-ran guest frame) (λ f.
-      both (Ran guest frame) (eqb (typeOf frame) 0x0800) _ _ _ _ (λ g. ip-ran (eqb-true (typeOf frame) 0x0800 g)) (λ g. dropped guest frame))))
+      (both (Ran self frame) (eqb (typeOf frame) 0x0806) _ _ _ _ (λ f. arp-ran self frame) (λ f.
+      both (Ran self frame) (eqb (typeOf frame) 0x0800) _ _ _ _ (λ g. ip-ran (eqb-true (typeOf frame) 0x0800 g)) (λ g. dropped self frame))))

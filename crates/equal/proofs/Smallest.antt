@@ -1,8 +1,11 @@
--- The shortest frames on which the Rust panics or cuts a length, and that no shorter one does: with `rust-panics-exactly` and `rust-cuts-exactly`.
+-- The shortest frames on which the Rust panics or cuts a length: it does so on them, and on no shorter one (with `rust-panics-exactly` and `rust-cuts-exactly`).
 use Prim.Native.Nat.{ℕ, zero, suc, _+_, _*_, _%_, _≤_}
 use mathlib.Core.Path.{_≡_, refl, ap, sym, _∙_}
 use mathlib.Core.Logic.{_⊎_, inl, inr}
-use mathlib.Core.List.{List}
+use mathlib.Core.Bool.{Bool, true, _&&_}
+use mathlib.Core.List.{List, [], _∷_}
+use borrow.Author.Tests.{ltb-true}
+use lib.Dec.{ltb}
 use native.Mathlib.Omega.{arith}
 use lib.ListN.{length, drop, length-take, length-drop}
 use Rattle.fields.specs.Bytes.{u8At}
@@ -14,10 +17,18 @@ use Rattle.options.specs.Rfc2132.{walk, walkFrom}
 use Rattle.options.proofs.CutPlace.{cut-place}
 use Rattle.rules.specs.Rules.{payloadAt, payload, dataAt, dataLength, datagramData}
 use Rattle.rules.specs.Seen.{Carries}
+use Rattle.published.specs.Rust.{panics, cuts, whole}
+use Rattle.published.specs.Backend.{SlirpBackend}
+use Rattle.published.specs.Slirp.{send}
+use Rattle.rules.proofs.Same.{both-left, both-right}
+use Rattle.equal.specs.Alike.{recordOf}
+use Rattle.equal.specs.Types.{Bytes, GuestTyped}
 use Rattle.equal.specs.Smallest.{headerOf24, typeCutOff, pingOver}
 use Rattle.equal.specs.Where.{HeaderPast, TypeCut, PingOver}
+use Rattle.equal.proofs.OnAll.{header-past-panics}
+use Rattle.equal.proofs.Demand2.{rust-panics-exactly, rust-cuts-exactly}
 
--- a header that is longer than its frame: 34 bytes
+-- a header that runs past its frame: 34 bytes
 pub shortest-header : HeaderPast headerOf24 × (length headerOf24 ≡ 34)
 shortest-header = (record { read = inr (record { long = omega arith; ipv4 = refl; carried = refl }); past = omega arith }, refl)
 
@@ -81,3 +92,27 @@ no-shorter-ping-over frame (len, p) = go (headerLength (body frame)) refl
         let length-32 : headerLength (body frame) ≡ 32 = ap (λ (b : ℕ). b % 16 * 4) eight in
         absurd (omega (arith, e, length-32))
     go (suc n) e = omega (arith, e, p .asked .there, p .its-length, p .over, length-drop (payloadAt frame) frame)
+
+-- each element of a list that computes is a byte
+allBytes : List ℕ → Bool
+allBytes [] = true
+allBytes (b ∷ s) = ltb b 256 && allBytes s
+
+checked : (s : List ℕ) → allBytes s ≡ true → Bytes s
+unfolding allBytes
+checked [] e = tt
+checked (b ∷ s) e = (ltb-true b 256 (both-left (ltb b 256) (allBytes s) e), checked s (both-right (ltb b 256) (allBytes s) e))
+
+-- the Rust on the three, from every backend
+module _ (self : SlirpBackend) where
+  pub panics-at-34-bytes : send self (whole headerOf24) ≡ panics
+  panics-at-34-bytes = header-past-panics self headerOf24 (shortest-header .0)
+
+  module _ (typed : GuestTyped (recordOf self)) where
+    pub panics-at-264-bytes : send self (whole typeCutOff) ≡ panics
+    unfolding allBytes
+    panics-at-264-bytes = rust-panics-exactly self typeCutOff typed (checked typeCutOff refl) .1 (inr (shortest-type .0))
+
+    pub cuts-at-65534-bytes : send self (whole pingOver) ≡ cuts
+    unfolding allBytes
+    cuts-at-65534-bytes = rust-cuts-exactly self pingOver typed (checked pingOver refl) .1 (shortest-ping-over .0)

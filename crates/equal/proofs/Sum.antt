@@ -65,14 +65,14 @@ fold-two-turns turns s h = go (ltb s 65536) refl
         let big = ltb-false s 65536 e in
         fold-turn (suc turns) s big (omega arith) ∙ fold-done turns (s % 65536 + s / 65536) (omega (arith, big)) ∙ ap gives (fold-once s)
 
-folds : (s : ℕ) → s < 4294967296 → folded 4 s ≡ gives (fold s)
+folds : (s : ℕ) → s < 4294967296 → folded 3 s ≡ gives (fold s)
 folds s h = go (ltb s 65536) refl
   where
-    go : (small : Bool) → ltb s 65536 ≡ small → folded 4 s ≡ gives (fold s)
-    go true e = fold-done 3 s (ltb-true s 65536 e)
+    go : (small : Bool) → ltb s 65536 ≡ small → folded 3 s ≡ gives (fold s)
+    go true e = fold-done 2 s (ltb-true s 65536 e)
     go false e =
         let big = ltb-false s 65536 e in
-        fold-turn 3 s big h ∙ fold-two-turns 1 (s % 65536 + s / 65536) (omega arith) ∙ ap gives (fold-once s)
+        fold-turn 2 s big h ∙ fold-two-turns 0 (s % 65536 + s / 65536) (omega arith) ∙ ap gives (fold-once s)
 
 -- on every input: RFC 1071's fold of the sum modulo 2^32
 pub rust-sum : (s : List ℕ) → rustChecksum (whole s) ≡ gives (65535 - fold (total s % 4294967296))

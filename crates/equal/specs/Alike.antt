@@ -1,12 +1,18 @@
 -- The same thing in the Rust's terms and in ours.
 use Prim.Native.Nat.{ℕ}
-use mathlib.Core.List.{List, [], _∷_}
-use lib.ListN.{length}
+use mathlib.Core.Path.{_≡_}
+use mathlib.Core.List.{List, [], _∷_, _++_}
+use lib.ListN.{length, drop}
+use Rattle.fields.specs.Bytes.{part}
+use Rattle.fields.specs.Rfc768.{sourcePort, targetPort}
+use Rattle.fields.specs.Rfc791.{sourceOf, targetOf}
+use Rattle.fields.specs.Rfc894.{body, sourceMac}
 use Rattle.frames.specs.Answer.{Writing, Outcome}
 use Rattle.frames.specs.declared.answer.Guest.{Guest}
-use Rattle.published.specs.Rust.{lenOf}
+use Rattle.published.specs.Rust.{Slice, whole, lenOf}
 use Rattle.published.specs.Frames.{Endpoints as RustEndpoints, Counted}
 use Rattle.published.specs.Backend.{Call, «handle_dns», «relay_datagram», «handle_tcp», SlirpBackend}
+use Rattle.rules.specs.Rules.{payload}
 use Rattle.tcp.specs.declared.Endpoints.{Endpoints}
 
 -- who speaks to whom
@@ -14,11 +20,7 @@ abbrev pub theEnds : Endpoints → RustEndpoints
 theEnds ends =
     record { «dst_mac» = ends .«dst_mac»; «src_ip» = ends .«src_ip»; «src_port» = ends .«src_port»; «dst_ip» = ends .«dst_ip»; «dst_port» = ends .«dst_port» }
 
--- the backend that has "the same IP id, xid and guest MAC", with nothing pending
-abbrev pub backendOf : Guest → SlirpBackend
-backendOf guest = record { «guest_mac» = guest .mac; «rx_pending» = []; «dhcp_xid» = guest .xid; counter = guest .id; calls = [] }
-
--- the record of a backend
+-- the record with a backend's "IP id, xid and guest MAC"
 abbrev pub recordOf : SlirpBackend → Guest
 recordOf self = record { mac = self .«guest_mac»; id = self .counter; xid = self .«dhcp_xid» }
 
@@ -29,21 +31,45 @@ handoff («relay_datagram» mac ip port ip′ port′ «data») = 3 ∷ «data»
 handoff («handle_tcp» frame) = 4 ∷ lenOf frame ∷ []
 
 -- What was done, in document 01's numbers and with the reply's bytes: nothing, one frame pushed, or one call. No answer has the numbers of anything else.
-abbrev pub deed : (pending : List (List ℕ)) (calls : List Call) → Writing
-deed [] [] = record { numbers = 0 ∷ []; image = [] }
-deed [] (call ∷ []) = record { numbers = handoff call; image = [] }
-deed [] (call ∷ call′ ∷ calls) = record { numbers = []; image = [] }
-deed (frame ∷ []) [] = record { numbers = 1 ∷ length frame ∷ []; image = frame }
-deed (frame ∷ []) (call ∷ calls) = record { numbers = []; image = [] }
-deed (frame ∷ frame′ ∷ pending) calls = record { numbers = []; image = [] }
+abbrev pub done : (frames : List (List ℕ)) (calls : List Call) → Writing
+done [] [] = record { numbers = 0 ∷ []; image = [] }
+done [] (call ∷ []) = record { numbers = handoff call; image = [] }
+done [] (call ∷ call′ ∷ calls) = record { numbers = []; image = [] }
+done (frame ∷ []) [] = record { numbers = 1 ∷ length frame ∷ []; image = frame }
+done (frame ∷ []) (call ∷ calls) = record { numbers = []; image = [] }
+done (frame ∷ frame′ ∷ frames) calls = record { numbers = []; image = [] }
 
--- what came of a call that started with `backendOf` some record
-abbrev pub left : SlirpBackend → Outcome
-left self = record { writing = deed (self .«rx_pending») (self .calls); guest = recordOf self }
+-- what a list has got behind what it had
+abbrev pub added : {A : Type 0} → (had has : List A) → List A
+added had has = drop (length had) has
+
+-- what came of a run from one backend to another: what it pushed and called, and the record that it left
+abbrev pub cameOf : (from to : SlirpBackend) → Outcome
+cameOf from to = record { writing = done (added (from .«rx_pending») (to .«rx_pending»)) (added (from .calls) (to .calls)); guest = recordOf to }
+
+-- what was pending is pending still, and what was called was called
+pub record Keeps (from to : SlirpBackend) : Type 0 where
+  pub pending : to .«rx_pending» ≡ from .«rx_pending» ++ added (from .«rx_pending») (to .«rx_pending»)
+  pub called : to .calls ≡ from .calls ++ added (from .calls) (to .calls)
+
+-- a slice that is a part of the frame, where it says
+abbrev pub PartOf : (frame : List ℕ) → Slice → Type 0
+PartOf frame s = s .bytes ≡ part frame (s .start) (lenOf s)
+
+-- a call that is handed the frame's own data, MAC, addresses and ports
+abbrev pub Handed : (frame : List ℕ) → Call → Type 0
+Handed frame («handle_dns» «data» mac ip port) = PartOf frame «data» × (mac ≡ sourceMac frame) × (ip ≡ sourceOf (body frame)) × (port ≡ sourcePort (payload frame))
+Handed frame («relay_datagram» mac ip port ip′ port′ «data») =
+    PartOf frame «data» × (mac ≡ sourceMac frame) × (ip ≡ sourceOf (body frame)) × (port ≡ sourcePort (payload frame)) × (ip′ ≡ targetOf (body frame)) × (port′ ≡ targetPort (payload frame))
+Handed frame («handle_tcp» s) = s ≡ whole frame
+
+abbrev pub AllHanded : (frame : List ℕ) → List Call → Type 0
+AllHanded frame [] = Unit
+AllHanded frame (call ∷ calls) = Handed frame call × AllHanded frame calls
 
 -- what came of a builder that took this record's id: its frame, and the record with the counter behind it
-abbrev pub leftBuilt : Guest → Counted → Outcome
-leftBuilt guest made =
+abbrev pub cameOfBuilder : Guest → Counted → Outcome
+cameOfBuilder guest made =
     record { writing = record { numbers = 1 ∷ length (made .frame) ∷ []; image = made .frame }; guest = record { mac = guest .mac; id = made .counter; xid = guest .xid } }
 
 -- what came of one that takes none

@@ -11,12 +11,12 @@ use Rattle.frames.specs.declared.answer.Verdict.{Verdict}
 use Rattle.published.specs.Rust.{Run, gives, panics, cuts, unfinished}
 use Rattle.published.specs.Frames.{Counted}
 use Rattle.rules.specs.Rules.{unwritten}
-use Rattle.equal.specs.Alike.{leftBuilt, writtenAs, refusedAs}
+use Rattle.equal.specs.Alike.{cameOfBuilder, writtenAs, refusedAs}
 
 -- one that takes an id
 pub record FrameEquals (guest : Guest) (run : Run Counted) (limit len : ℕ) (before after : List ℕ) (answer : Answer) : Type 0 where
   -- where the Rust gives a frame and the buffer has room for it: that frame, and the record with the Rust's counter
-  pub equal : (made : Counted) → run ≡ gives made → length (made .frame) ≤ length before → Meets (leftBuilt guest made) before after answer
+  pub equal : (made : Counted) → run ≡ gives made → length (made .frame) ≤ length before → Meets (cameOfBuilder guest made) before after answer
   -- where it is too short: 5 with the frame's length
   pub lacks-room : (made : Counted) → run ≡ gives made → length before < length (made .frame) → Meets (unwritten (5 ∷ length (made .frame) ∷ []) guest) before after answer
   -- the Rust cuts exactly past the limit, and there it is 6

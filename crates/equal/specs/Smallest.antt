@@ -3,7 +3,7 @@ use mathlib.Core.List.{List, [], _∷_, _++_}
 use Prim.Native.Nat.{ℕ}
 use lib.ListN.{replicate}
 
--- from 52:54:00:12:34:56 to the gateway's MAC
+-- from 52:54:00:12:34:56 to the gateway's MAC, IPv4
 abbrev toGateway : List ℕ
 toGateway = 0x52 ∷ 0x54 ∷ 0x00 ∷ 0x00 ∷ 0x00 ∷ 0x01 ∷ 0x52 ∷ 0x54 ∷ 0x00 ∷ 0x12 ∷ 0x34 ∷ 0x56 ∷ 0x08 ∷ 0x00 ∷ []
 

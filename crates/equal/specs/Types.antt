@@ -16,7 +16,7 @@ pub record Array (n : ℕ) (s : List ℕ) : Type 0 where
   pub long : length s ≡ n
   pub bytes : Bytes s
 
--- the fields of a record
+-- a guest's record, as far as it matters: nothing hangs on its xid being a `u32`
 pub record GuestTyped (guest : Guest) : Type 0 where
   pub mac : Array 6 (guest .mac)
   pub id : guest .id < 65536

@@ -10,7 +10,7 @@ use Rattle.frames.specs.Network.{network}
 use Rattle.rules.specs.Rules.{payloadAt}
 use Rattle.rules.specs.Seen.{Carries, CutMessage, TooLongPing}
 
--- an ICMP message to the gateway, or a datagram, whose header is longer than its frame
+-- an ICMP message to the gateway, or a datagram, whose IPv4 header runs past the end of its frame
 pub record HeaderPast (frame : List ℕ) : Type 0 where
   pub read : (Carries frame 1 × (targetOf (body frame) ≡ network .gateway)) ⊎ Carries frame 17
   pub past : length frame < payloadAt frame

@@ -1,4 +1,4 @@
--- `dhcp.rs`: enough DHCP to hand the guest its one address. `message_type` and `build_reply` stand before the functions that call them.
+-- `dhcp.rs`: enough DHCP to hand the guest its one address. Each function stands before the one that calls it, which turns the order around.
 use Prim.Native.Nat.{ℕ, zero, suc, _+_}
 use mathlib.Core.Bool.{_&&_, not, cond}
 use mathlib.Core.List.{List, [], _∷_}

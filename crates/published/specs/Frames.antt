@@ -106,11 +106,11 @@ folded (suc turns) sum =
     (folded turns (wrappingAddU32 (bitAnd sum 0xffff) (sum / 65536)))
     (gives sum)
 
--- a turn for each byte and the test that ends them; three turns and the test fold 32 bits
+-- a turn for each byte and the test that ends them; two turns and the test fold 32 bits
 unfoldable pub checksum : («data» : Slice) → Run ℕ
 checksum «data» =
     sumFrom (suc (lenOf «data»)) «data» 0 0 ▹ λ sum.
-    folded 4 sum ▹ λ sum.
+    folded 3 sum ▹ λ sum.
     gives (65535 - sum % 65536)
 
 -- what a function gives that takes an id: its frame, and the counter behind it

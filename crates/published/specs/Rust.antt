@@ -1,5 +1,6 @@
--- What the operations of Rust mean that the published text uses: how a run ends, slices, arrays, vectors, numbers of a fixed width.
--- A byte, a number and a length are natural numbers; `[u8; n]` and `Vec<u8>` are lists, `&[u8]` is a `Slice`. No length comes near the end of `usize`.
+-- What the operations of Rust mean that the published text uses, in a build without overflow checks: how a run ends, slices, arrays, vectors, numbers of a fixed width.
+-- A byte, a number and a length are natural numbers; `[u8; n]` and `Vec<u8>` are lists, `&[u8]` is a `Slice`. A slice has at most `isize::MAX` bytes, so that no place comes near
+-- the end of `usize`; that memory can run out is left out.
 use Prim.Native.Nat.{ℕ, _+_, _*_, _-_, _/_, _%_}
 use mathlib.Core.Bool.{Bool, true, false, _&&_, cond}
 use mathlib.Core.List.{List, [], _∷_, _++_}
@@ -9,9 +10,9 @@ use lib.ListN.{length, getD, take, drop, replicate}
 -- how a run ends
 pub data Run (A : Type 0) : Type 0 where
   gives : (value : A) → Run A
-  -- an index or a range past the end, a `copy_from_slice` between lengths that differ, an `unwrap` of what is no value
+  -- an index or a range past the end, a `copy_from_slice` between lengths that differ, an `unwrap` of what is no value; what was changed before is not said
   panics : Run A
-  -- `as` cuts a length
+  -- `as` cuts a length. The Rust goes on, with a wrong length; here the run is over
   cuts : Run A
   -- a loop wants more turns than its definition has; that none does is proved (crate `equal`)
   unfinished : Run A
@@ -97,9 +98,10 @@ u16ToBe x = x / 256 ∷ x % 256 ∷ []
 abbrev pub u32ToBe : ℕ → List ℕ
 u32ToBe x = x / 16777216 ∷ x / 65536 % 256 ∷ x / 256 % 256 ∷ x % 256 ∷ []
 
--- `a + b` in a release build, of `u16` and of `u32`
+-- `fetch_add` of an `AtomicU16`, which wraps in every build
 abbrev pub wrappingAddU16 : (a b : ℕ) → ℕ
 wrappingAddU16 a b = (a + b) % 65536
 
+-- `a + b` of two `u32`; with overflow checks it would panic instead of wrapping
 abbrev pub wrappingAddU32 : (a b : ℕ) → ℕ
 wrappingAddU32 a b = (a + b) % 4294967296

@@ -34,7 +34,7 @@ unfoldable pub «handle_arp» : (self : SlirpBackend) (frame : Slice) → Run Sl
     copy reply 0 6 «sender_mac» ▹ λ reply.
     copy reply 6 12 «HOST_MAC» ▹ λ reply.
     copy reply 12 14 (u16ToBe «ETHERTYPE_ARP») ▹ λ reply.
-    -- `body` is `reply` from 14 on, and what is done to it is done to `reply`
+    -- `body` is `&mut reply[14..]`, inside its 42 bytes: what is done to it is done to `reply`
     let front = take 14 reply in
     let body = drop 14 reply in
     copy body 0 2 (u16ToBe 1) ▹ λ body.

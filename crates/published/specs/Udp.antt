@@ -1,4 +1,5 @@
--- `udp.rs`: guest datagrams. `relay_datagram` is a call of what is outside; it and the types of its connections are left out.
+-- `udp.rs`: guest datagrams. `relay_datagram` is a call of what is outside: a run ends with it, and what it does on its socket (it can push replies and take ids at once) is left out, with
+-- the types of its connections.
 use Prim.Native.Nat.{ℕ, min}
 use mathlib.Core.Bool.{_&&_, cond}
 use lib.Dec.{ltb, eqb}

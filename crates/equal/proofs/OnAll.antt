@@ -12,7 +12,6 @@ use Rattle.fields.specs.Rfc791.{protocolOf, targetOf}
 use Rattle.fields.specs.Rfc894.{body, typeOf}
 use Rattle.fields.specs.Rfc2131.{operation, magicCookie}
 use Rattle.frames.specs.Network.{network}
-use Rattle.frames.specs.declared.answer.Guest.{Guest}
 use Rattle.published.specs.Rust.{panics, cuts, whole}
 use Rattle.published.specs.Backend.{SlirpBackend}
 use Rattle.published.specs.Slirp.{«handle_icmp», «handle_ip», send}
@@ -23,7 +22,7 @@ use Rattle.rules.specs.Seen.{Carries, CutMessage, TooLongPing}
 use Rattle.rules.specs.declared.decision.Decision.the-variants.{CutType}
 use Rattle.rules.proofs.Same.{equal-same}
 use Rattle.rules.proofs.Says.{too-long-decided}
-use Rattle.equal.specs.Alike.{backendOf}
+use Rattle.equal.specs.Alike.{recordOf}
 use Rattle.equal.specs.Types.{Bytes, GuestTyped}
 use Rattle.equal.specs.Where.{HeaderPast}
 use Rattle.equal.proofs.Fields.{eth-type, ip-proto, ip-dst, payload-past}
@@ -75,7 +74,7 @@ module _ (self : SlirpBackend) (frame : List ℕ) where
   header-past-panics h = read-past (h .read) (h .past)
 
 -- a DHCP message whose type is cut off is decided so
-cut-decided : (frame : List ℕ) (place : ℕ) → CutMessage frame place → decision network frame ≡ CutType place
+pub cut-decided : (frame : List ℕ) (place : ℕ) → CutMessage frame place → decision network frame ≡ CutType place
 unfolding decision ipDecision udpDecision dhcpDecision
 cut-decided frame place m =
     let d = m .message .datagram in
@@ -99,12 +98,12 @@ cut-decided frame place m =
       m .cut-off,
     )
 
-module _ (guest : Guest) (frame : List ℕ) (typed : GuestTyped guest) (bytes : Bytes frame) where
-  pub type-cut-panics : (place : ℕ) → CutMessage frame place → send (backendOf guest) (whole frame) ≡ panics
+module _ (self : SlirpBackend) (frame : List ℕ) (typed : GuestTyped (recordOf self)) (bytes : Bytes frame) where
+  pub type-cut-panics : (place : ℕ) → CutMessage frame place → send self (whole frame) ≡ panics
   unfolding Ran
-  type-cut-panics place m = subst (Ran guest frame (send (backendOf guest) (whole frame))) (cut-decided frame place m) (send-ran guest frame typed bytes)
+  type-cut-panics place m = subst (Ran self frame (send self (whole frame))) (cut-decided frame place m) (send-ran self frame typed bytes)
 
-  pub ping-over-cuts : (len : ℕ) → TooLongPing network frame len → send (backendOf guest) (whole frame) ≡ cuts
+  pub ping-over-cuts : (len : ℕ) → TooLongPing network frame len → send self (whole frame) ≡ cuts
   unfolding Ran
   ping-over-cuts len p =
-      subst (Ran guest frame (send (backendOf guest) (whole frame))) (too-long-decided network frame (p .asked) (subst (λ (n : ℕ). 65515 < n) (p .its-length) (p .over))) (send-ran guest frame typed bytes)
+      subst (Ran self frame (send self (whole frame))) (too-long-decided network frame (p .asked) (subst (λ (n : ℕ). 65515 < n) (p .its-length) (p .over))) (send-ran self frame typed bytes)
