@@ -94,8 +94,14 @@ impl GatewayList {
     /// Lists a call with its record.
     pub fn call(&mut self, record: Record, frame: &[u8], room: usize) -> Verdict {
         let (answer, whose) = self.rust.ask(record, frame, room);
-        let before = format!(" {:04x}{:08x}", record.id, record.xid);
-        self.add(WITH_RECORD, &before, frame, room, &answer, whose)
+        self.add(
+            WITH_RECORD,
+            &before_call(record),
+            frame,
+            room,
+            &answer,
+            whose,
+        )
     }
 
     /// Lists a call that goes on with the record of the one before.
@@ -117,31 +123,13 @@ impl GatewayList {
         answer: &Answer,
         whose: Whose,
     ) -> Verdict {
-        let Answer {
-            verdict,
-            reply,
-            after,
-        } = answer;
-        let (number, value, len) = numbers(*verdict);
-        let frame_pieces = pieces(frame, &[]);
-        let reply_pieces = pieces(reply, frame);
-        assert!(laid(&frame_pieces, &[]) == *frame);
-        assert!(laid(&reply_pieces, frame) == *reply);
-        let line = format!(
-            "{kind:02x}{before} {}{:04x}{:08x} {:02x}{room:08x}{number:02x}{value:08x}{len:04x} {:04x}{} {}",
-            hex(&after.mac),
-            after.id,
-            after.xid,
-            whose as u8,
-            frame_pieces.len(),
-            hex(&frame_pieces),
-            hex(&reply_pieces),
-        );
+        let (number, ..) = numbers(answer.verdict);
+        let line = call_line(kind, before, frame, room, answer, whose);
         self.lines.add(kind, Some(number), &line);
-        self.record = *after;
+        self.record = answer.after;
         *self.counts.entry((whose, number)).or_default() += 1;
         *self.in_group.entry(whose).or_default() += 1;
-        *verdict
+        answer.verdict
     }
 
     /// Ends the list with its counts.
@@ -152,6 +140,53 @@ impl GatewayList {
         }
         self.lines.finish()
     }
+}
+
+fn before_call(record: Record) -> String {
+    format!(" {:04x}{:08x}", record.id, record.xid)
+}
+
+/// The line of a call with its record.
+#[allow(dead_code)] // by oracle/vectors
+pub fn line_with_record(
+    record: Record,
+    frame: &[u8],
+    room: usize,
+    answer: &Answer,
+    whose: Whose,
+) -> String {
+    let before = before_call(record);
+    call_line(WITH_RECORD, &before, frame, room, answer, whose)
+}
+
+fn call_line(
+    kind: u8,
+    before: &str,
+    frame: &[u8],
+    room: usize,
+    answer: &Answer,
+    whose: Whose,
+) -> String {
+    let Answer {
+        verdict,
+        reply,
+        after,
+    } = answer;
+    let (number, value, len) = numbers(*verdict);
+    let frame_pieces = pieces(frame, &[]);
+    let reply_pieces = pieces(reply, frame);
+    assert!(laid(&frame_pieces, &[]) == *frame);
+    assert!(laid(&reply_pieces, frame) == *reply);
+    format!(
+        "{kind:02x}{before} {}{:04x}{:08x} {:02x}{room:08x}{number:02x}{value:08x}{len:04x} {:04x}{} {}",
+        hex(&after.mac),
+        after.id,
+        after.xid,
+        whose as u8,
+        frame_pieces.len(),
+        hex(&frame_pieces),
+        hex(&reply_pieces),
+    )
 }
 
 fn of_whom(counts: &BTreeMap<Whose, usize>) -> String {
@@ -166,7 +201,7 @@ fn of_whom(counts: &BTreeMap<Whose, usize>) -> String {
 }
 
 /// The verdict's number, its value, and the length of data where it has one.
-fn numbers(verdict: Verdict) -> (u8, usize, usize) {
+pub fn numbers(verdict: Verdict) -> (u8, usize, usize) {
     match verdict {
         Verdict::Drop => (0, 0, 0),
         Verdict::Reply(n) => (1, n, 0),

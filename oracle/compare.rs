@@ -1,0 +1,323 @@
+//! The comparison of the published Rust with the proved code: oracle/compare says how it is run.
+
+#[allow(dead_code)]
+mod ask_dhcp;
+#[allow(dead_code)]
+mod ask_gateway;
+#[allow(dead_code)]
+mod cases;
+mod compare_builders;
+mod compare_call;
+mod compare_drawn;
+mod compare_every;
+mod compare_ours;
+mod compare_rust;
+mod compare_sample;
+mod compare_shrink;
+mod compare_tally;
+mod compare_worker;
+#[allow(dead_code)]
+mod dhcp_cases;
+#[allow(dead_code)]
+mod dhcp_vectors;
+mod document_01;
+mod drawn_frames;
+#[allow(dead_code)]
+mod draws;
+#[allow(dead_code)]
+mod gateway_cases;
+#[allow(dead_code)]
+mod gateway_sequences;
+#[allow(dead_code)]
+mod grammar_01;
+#[allow(dead_code)]
+mod guest_frames;
+#[allow(dead_code)]
+mod lines;
+mod pieces;
+#[allow(dead_code)]
+mod reading_cases;
+#[allow(dead_code)]
+mod readings_captured;
+
+use std::io::{BufRead, BufReader};
+use std::process::{Child, Command, Stdio, exit};
+use std::sync::mpsc::{RecvTimeoutError, Sender, channel};
+use std::thread;
+use std::time::{Duration, Instant};
+
+use compare_tally::{Row, grouped, sum};
+use compare_worker::Plan;
+
+const USAGE: &str = "usage: compare [--seed NUMBER] [--frames NUMBER] [--processes NUMBER] [--sample NUMBER]
+  --seed       what the inputs are drawn from; the same seed, frames and processes make the same inputs
+  --frames     how many frames in all (12,000,000)
+  --processes  how many processes, each with its own Rust and its own id counter (1)
+  --sample     print so many lines for replay of each class and verdict, and no table";
+
+const FRAMES: u64 = 12_000_000;
+/// A run of this many frames or more has to reach every verdict in its table.
+const NO_SMALL_RUN: u64 = 1_000_000;
+
+pub fn main() {
+    let words: Vec<String> = std::env::args().skip(1).collect();
+    let mut plan = Plan {
+        seed: seed_of_this_moment(),
+        frames: FRAMES,
+        processes: 1,
+        sample: 0,
+    };
+    let mut process = None;
+    for pair in words.chunks(2) {
+        let number = pair.get(1).and_then(|word| number_of(word));
+        match (pair[0].as_str(), number) {
+            ("--seed", Some(number)) => plan.seed = number,
+            ("--frames", Some(number @ 1..)) => plan.frames = number,
+            ("--processes", Some(number @ 1..=64)) => plan.processes = number,
+            ("--sample", Some(number)) => plan.sample = number as usize,
+            ("--process", Some(number)) => process = Some(number),
+            _ => {
+                eprintln!("{USAGE}");
+                exit(2);
+            }
+        }
+    }
+    match process {
+        Some(process) => exit(if compare_worker::work(&plan, process) {
+            0
+        } else {
+            1
+        }),
+        None => exit(if run(&plan) { 0 } else { 1 }),
+    }
+}
+
+/// Decimal, or hexadecimal behind 0x.
+fn number_of(word: &str) -> Option<u64> {
+    let word = word.replace([',', '_'], "");
+    match word.strip_prefix("0x") {
+        Some(digits) => u64::from_str_radix(digits, 16).ok(),
+        None => word.parse().ok(),
+    }
+}
+
+fn seed_of_this_moment() -> u64 {
+    let now = std::time::SystemTime::now().duration_since(std::time::UNIX_EPOCH);
+    now.unwrap().as_nanos() as u64 ^ u64::from(std::process::id()) << 32
+}
+
+enum Heard {
+    Line(usize, String),
+    Ended(usize),
+}
+
+/// What the processes have told so far.
+#[derive(Default)]
+struct Told {
+    at: Vec<(u64, u64)>,
+    rows: Vec<Row>,
+    builders: Vec<Row>,
+    wraps: u64,
+    samples: Vec<String>,
+    done: usize,
+    differs: bool,
+    text: String,
+}
+
+impl Told {
+    fn hear(&mut self, process: usize, line: &str) {
+        if self.differs {
+            self.text += line;
+            self.text.push('\n');
+            return;
+        }
+        let (word, rest) = line.split_once(' ').unwrap_or((line, ""));
+        match word {
+            "at" | "differs" => {
+                let (frames, builders) = rest.split_once(' ').unwrap();
+                let at = (frames.parse().unwrap(), builders.parse().unwrap());
+                if at != (0, 0) {
+                    self.at[process] = at;
+                }
+                self.differs = word == "differs";
+            }
+            "row" => add(&mut self.rows, Row::heard(rest)),
+            "builder" => add(&mut self.builders, Row::heard(rest)),
+            "wraps" => self.wraps += rest.parse::<u64>().unwrap(),
+            "sample" => self.samples.push(rest.to_string()),
+            "done" => self.done += 1,
+            _ => {
+                self.differs = true;
+                self.text = format!("{line}\n");
+            }
+        }
+    }
+
+    fn calls(&self) -> (u64, u64) {
+        let both = |sum: (u64, u64), at: &(u64, u64)| (sum.0 + at.0, sum.1 + at.1);
+        self.at.iter().fold((0, 0), both)
+    }
+}
+
+fn add(rows: &mut Vec<Row>, row: Row) {
+    match rows.iter_mut().find(|known| known.name == row.name) {
+        Some(known) => known.add(&row),
+        None => rows.push(row),
+    }
+}
+
+fn run(plan: &Plan) -> bool {
+    let began = Instant::now();
+    eprintln!(
+        "seed {:#018x}, {} frames, {} {}",
+        plan.seed,
+        grouped(plan.frames),
+        plan.processes,
+        if plan.processes == 1 {
+            "process"
+        } else {
+            "processes"
+        }
+    );
+    let (sender, heard) = channel();
+    let mut children: Vec<Child> = (0..plan.processes as usize)
+        .map(|process| started(plan, process, sender.clone()))
+        .collect();
+    drop(sender);
+    let mut told = Told {
+        at: vec![(0, 0); children.len()],
+        ..Told::default()
+    };
+    let (mut ended, mut shown, mut differing) = (0, Instant::now(), None);
+    while ended < children.len() {
+        match heard.recv_timeout(Duration::from_secs(1)) {
+            // Behind a difference only the process that found it is listened to.
+            Ok(Heard::Line(process, line)) => {
+                if differing.is_none() || differing == Some(process) {
+                    told.hear(process, &line);
+                }
+                if told.differs && differing.is_none() {
+                    differing = Some(process);
+                    let (frames, builders) = told.calls();
+                    eprintln!(
+                        "\na difference behind {:.1} s, {} frames and {} builder calls; it is made smaller",
+                        began.elapsed().as_secs_f64(),
+                        grouped(frames),
+                        grouped(builders)
+                    );
+                }
+            }
+            Ok(Heard::Ended(process)) => {
+                ended += 1;
+                if differing == Some(process) {
+                    break;
+                }
+            }
+            Err(RecvTimeoutError::Timeout) => {}
+            Err(RecvTimeoutError::Disconnected) => break,
+        }
+        if shown.elapsed() > Duration::from_secs(1) && !told.differs {
+            shown = Instant::now();
+            let (frames, builders) = told.calls();
+            let seconds = began.elapsed().as_secs_f64();
+            eprint!(
+                "\r{seconds:6.0} s  {} frames, {} builder calls, 0 differences, {} a second ",
+                grouped(frames),
+                grouped(builders),
+                grouped((frames as f64 / seconds) as u64)
+            );
+        }
+    }
+    eprintln!();
+    for child in &mut children {
+        let _ = child.kill();
+        let _ = child.wait();
+    }
+    if told.differs || told.done < children.len() {
+        print!("{}", told.text);
+        println!(
+            "seed {:#018x}: the sides differ, or a process did not end",
+            plan.seed
+        );
+        return false;
+    }
+    if plan.sample > 0 {
+        for line in &told.samples {
+            println!("{line}");
+        }
+        return true;
+    }
+    table(plan, &told, began.elapsed())
+}
+
+fn started(plan: &Plan, process: usize, sender: Sender<Heard>) -> Child {
+    let words = [
+        ("--seed", plan.seed),
+        ("--frames", plan.frames),
+        ("--processes", plan.processes),
+        ("--sample", plan.sample as u64),
+        ("--process", process as u64),
+    ];
+    let mut command = Command::new(std::env::current_exe().expect("the program's own path"));
+    for (word, number) in words {
+        command.args([word, &number.to_string()]);
+    }
+    let mut child = command.stdout(Stdio::piped()).spawn().expect("a process");
+    let output = child.stdout.take().unwrap();
+    thread::spawn(move || {
+        for line in BufReader::new(output).lines().map_while(Result::ok) {
+            if sender.send(Heard::Line(process, line)).is_err() {
+                return;
+            }
+        }
+        let _ = sender.send(Heard::Ended(process));
+    });
+    child
+}
+
+/// Prints the table, and says whether nothing in it was starved.
+fn table(plan: &Plan, told: &Told, took: Duration) -> bool {
+    let frames = sum("all frames", &told.rows);
+    let builders = sum("all builder calls", &told.builders);
+    println!("{}", compare_tally::head());
+    for row in told.rows.iter().chain([&frames]) {
+        println!("{}", compare_tally::line(row));
+    }
+    println!();
+    for row in told.builders.iter().chain([&builders]) {
+        println!("{}", compare_tally::line(row));
+    }
+    println!(
+        "\nThe id went from 65,535 to 0 {} times; the Rust panicked {} times and cut a length {} times.",
+        told.wraps,
+        grouped(frames.panics),
+        grouped(frames.cuts + builders.cuts)
+    );
+    println!(
+        "seed {:#018x}, {} processes, {:.0} s: {} frames, {} builder calls, 0 differences",
+        plan.seed,
+        plan.processes,
+        took.as_secs_f64(),
+        grouped(frames.calls()),
+        grouped(builders.calls())
+    );
+    let built = [1, 5, 6].map(|verdict| builders.verdicts[verdict]);
+    let counts = frames.verdicts.iter().chain(&built).chain([
+        &told.wraps,
+        &frames.panics,
+        &frames.cuts,
+        &builders.cuts,
+    ]);
+    let starved = counts.into_iter().any(|count| *count == 0)
+        || told
+            .rows
+            .iter()
+            .chain(&told.builders)
+            .any(|row| row.calls() == 0);
+    let counted = (frames.calls(), builders.calls()) == told.calls();
+    if !counted || starved && plan.frames >= NO_SMALL_RUN {
+        println!("but a verdict, a class or a deed was never met, or calls were not counted");
+        return false;
+    }
+    true
+}

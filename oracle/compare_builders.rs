@@ -1,0 +1,219 @@
+//! Calls of the builders and of the checksum, compared with the Rust's.
+
+use published::SlirpBackend;
+
+use crate::ask_gateway::Whose;
+use crate::cases::SYN;
+use crate::compare_ours::{self, Segment, Told};
+use crate::compare_rust::{TheRust, cut, number};
+use crate::document_01::{Answer, Record, Verdict};
+use crate::draws::Draws;
+
+pub const NAMES: [&str; 4] = [
+    "make_ip_frame",
+    "make_udp_payload",
+    "make_tcp_frame",
+    "checksum",
+];
+
+#[derive(Clone, Debug)]
+pub enum Builder {
+    Ip {
+        ends: ([u8; 6], [u8; 4], [u8; 4]),
+        proto: u8,
+    },
+    Udp {
+        src_port: u16,
+        dst_port: u16,
+    },
+    Tcp {
+        dst_mac: [u8; 6],
+        src: ([u8; 4], u16),
+        dst: ([u8; 4], u16),
+        seq: u32,
+        ack: u32,
+        flags: u8,
+    },
+    Checksum,
+}
+
+/// A checksum is compared as if it had been written into a buffer of its size.
+const CHECKSUM_LEN: usize = 2;
+
+/// The bytes before the payload, and where a length is cut to 16 bits: the longest payload.
+fn head_and_limit(builder: &Builder) -> (usize, usize) {
+    match builder {
+        Builder::Ip { .. } => (34, 65_515),
+        Builder::Udp { .. } => (8, 65_527),
+        Builder::Tcp { flags, .. } if flags & SYN != 0 => (62, 65_487),
+        Builder::Tcp { .. } => (54, 65_495),
+        Builder::Checksum => (0, 131_074),
+    }
+}
+
+impl Builder {
+    pub fn index(&self) -> usize {
+        match self {
+            Builder::Ip { .. } => 0,
+            Builder::Udp { .. } => 1,
+            Builder::Tcp { .. } => 2,
+            Builder::Checksum => 3,
+        }
+    }
+
+    /// The `turn`th call: the builders and flags go round, the rest is drawn.
+    pub fn drawn(draws: &mut Draws, turn: usize) -> Self {
+        match turn % 8 {
+            0 | 1 => Builder::Ip {
+                ends: (draws.mac(), draws.ip(), draws.ip()),
+                proto: draws.proto(),
+            },
+            2 | 3 => Builder::Udp {
+                src_port: draws.port(),
+                dst_port: draws.port(),
+            },
+            4..7 => Builder::Tcp {
+                dst_mac: draws.mac(),
+                src: (draws.ip(), draws.port()),
+                dst: (draws.ip(), draws.port()),
+                seq: draws.word(),
+                ack: draws.word(),
+                flags: (turn / 8 * 3 + turn % 8 - 4) as u8,
+            },
+            _ => Builder::Checksum,
+        }
+    }
+
+    /// A payload: mostly short, now and then long, seldom around the limit.
+    pub fn payload(&self, draws: &mut Draws) -> Vec<u8> {
+        let (_, limit) = head_and_limit(self);
+        let len = match draws.below(400) {
+            0 if self.is_checksum() => limit - draws.below(4),
+            0 => limit - 2 + draws.below(6),
+            1 if !self.is_checksum() => limit + draws.below(4_000),
+            2..40 => draws.below(1_600),
+            _ => draws.below(80),
+        };
+        match draws.below(8) {
+            0 => vec![0xff; len],
+            1 => vec![draws.byte(); len],
+            _ if len > 2_000 => crate::lines::ruled_bytes(draws.rule_seed(), len),
+            _ => draws.bytes(len),
+        }
+    }
+
+    fn is_checksum(&self) -> bool {
+        matches!(self, Builder::Checksum)
+    }
+
+    /// The buffer lent: what is needed, around it, none, or ample.
+    pub fn room(&self, draws: &mut Draws, payload_len: usize) -> usize {
+        if self.is_checksum() {
+            return CHECKSUM_LEN;
+        }
+        let needed = head_and_limit(self).0 + payload_len;
+        let (shorter, more) = (draws.below(needed + 1), needed + draws.below(100));
+        let one_short = needed.saturating_sub(1);
+        draws.one_of(&[
+            needed,
+            needed,
+            needed,
+            needed + 1,
+            more,
+            one_short,
+            shorter,
+            0,
+        ])
+    }
+
+    /// What our side has to answer. The Rust builds frames that say a length cut to 16 bits, and it
+    /// knows no buffer.
+    pub fn expected(
+        &self,
+        rust: &mut TheRust,
+        record: Record,
+        payload: &[u8],
+        room: usize,
+    ) -> Result<(Answer, Whose), String> {
+        let built = match self {
+            Builder::Ip { ends, proto } => {
+                SlirpBackend::make_ip_frame(&ends.0, &ends.1, &ends.2, *proto, payload)
+            }
+            Builder::Udp { src_port, dst_port } => {
+                SlirpBackend::make_udp_payload(*src_port, *dst_port, payload)
+            }
+            Builder::Tcp {
+                dst_mac,
+                src,
+                dst,
+                seq,
+                ack,
+                flags,
+            } => SlirpBackend::make_tcp_frame(*dst_mac, *src, *dst, *seq, *ack, *flags, payload),
+            Builder::Checksum => SlirpBackend::checksum(payload).to_be_bytes().to_vec(),
+        };
+        let mut after = record;
+        let is_cut = match self {
+            Builder::Ip { .. } | Builder::Tcp { .. } => {
+                rust.follow(&built)?;
+                after.id = rust.next_id();
+                cut(&built)
+            }
+            Builder::Udp { .. } => number(&built[4..6]) != built.len(),
+            Builder::Checksum => false,
+        };
+        let (verdict, reply, after, whose) = if is_cut {
+            let verdict = Verdict::TooLong(payload.len());
+            (verdict, vec![], record, Whose::WhereCuts)
+        } else if room < built.len() {
+            let verdict = Verdict::NoRoom(built.len());
+            (verdict, vec![], record, Whose::WhereNoRoom)
+        } else {
+            (Verdict::Reply(built.len()), built, after, Whose::TheRust)
+        };
+        let answer = Answer {
+            verdict,
+            reply,
+            after,
+        };
+        Ok((answer, whose))
+    }
+
+    /// Our answer.
+    pub fn ours(&self, record: Record, payload: &[u8], out: &mut [u8]) -> Told {
+        match self {
+            Builder::Ip { ends, proto } => {
+                compare_ours::ip_frame(record, *ends, *proto, payload, out)
+            }
+            Builder::Udp { src_port, dst_port } => {
+                compare_ours::udp_payload(record, *src_port, *dst_port, payload, out)
+            }
+            Builder::Tcp {
+                dst_mac,
+                src,
+                dst,
+                seq,
+                ack,
+                flags,
+            } => {
+                let segment = Segment {
+                    dst_mac: *dst_mac,
+                    src: *src,
+                    dst: *dst,
+                    seq: *seq,
+                    ack: *ack,
+                    flags: *flags,
+                };
+                compare_ours::tcp_frame(record, &segment, payload, out)
+            }
+            Builder::Checksum => {
+                out.copy_from_slice(&compare_ours::checksum(payload).to_be_bytes());
+                Told {
+                    number: 1,
+                    values: [CHECKSUM_LEN as u64, 0],
+                    after: record,
+                }
+            }
+        }
+    }
+}

@@ -1,0 +1,344 @@
+//! Frames that are drawn: by the form that a guest's have, around each boundary, and as damaged copies
+//! of frames that real software sent.
+
+use crate::dhcp_vectors::{option_bytes, passed_options};
+use crate::drawn_frames::drawn_frame;
+use crate::draws::{Draws, GATEWAY_IP};
+use crate::gateway_sequences::messages;
+use crate::guest_frames::*;
+use crate::readings_captured::captured;
+
+/// A class that never ends. The weight is how many turns of a round it has.
+pub struct Drawn {
+    pub name: &'static str,
+    pub weight: usize,
+    pub frame: fn(&mut Draws, &Captured) -> Vec<u8>,
+}
+
+pub const DRAWN: [Drawn; 10] = [
+    Drawn {
+        name: "drawn by a guest's forms",
+        weight: 8,
+        frame: |draws, _| drawn_frame(draws),
+    },
+    Drawn {
+        name: "random bytes around each boundary",
+        weight: 4,
+        frame: |draws, _| random_bytes(draws),
+    },
+    Drawn {
+        name: "well-formed, cut or longer around a boundary",
+        weight: 4,
+        frame: |draws, _| around_a_boundary(draws),
+    },
+    Drawn {
+        name: "captured frames, damaged",
+        weight: 5,
+        frame: damaged_capture,
+    },
+    Drawn {
+        name: "captured frames to the gateway, damaged",
+        weight: 4,
+        frame: damaged_to_the_gateway,
+    },
+    Drawn {
+        name: "DHCP messages of clients, damaged",
+        weight: 4,
+        frame: damaged_message,
+    },
+    Drawn {
+        name: "DHCP option lists",
+        weight: 6,
+        frame: |draws, _| option_list(draws),
+    },
+    Drawn {
+        name: "pings, with IPv4 options and padding",
+        weight: 4,
+        frame: |draws, _| any_ping(draws),
+    },
+    Drawn {
+        name: "datagrams: DNS, relay, near DHCP",
+        weight: 3,
+        frame: |draws, _| any_datagram(draws),
+    },
+    Drawn {
+        name: "TCP and other protocols",
+        weight: 1,
+        frame: |draws, _| other_protocol(draws),
+    },
+];
+
+/// Pings up to 70,000 bytes take as long as a thousand others, so they come seldom.
+pub const LONG_PINGS: &str = "pings of 65,400 to 70,000 bytes";
+
+/// The frames and messages that are damaged.
+pub struct Captured {
+    frames: Vec<Vec<u8>>,
+    messages: Vec<Vec<u8>>,
+}
+
+impl Captured {
+    pub fn new() -> Self {
+        let frames = captured().into_iter().map(|captured| captured.frame);
+        Captured {
+            frames: frames.filter(|frame| frame.len() <= 2_048).collect(),
+            messages: messages(),
+        }
+    }
+}
+
+fn pick<'a>(draws: &mut Draws, of: &'a [Vec<u8>]) -> &'a [u8] {
+    &of[draws.below(of.len())]
+}
+
+const BOUNDARIES: [usize; 9] = [0, 14, 34, 42, 60, 94, 282, 284, 300];
+
+/// A length near a boundary of document 01's, or any up to 400.
+fn near_a_boundary(draws: &mut Draws) -> usize {
+    let any = draws.below(400);
+    let near = (draws.one_of(&BOUNDARIES) + draws.below(7)).saturating_sub(3);
+    draws.one_of(&[near, near, near, any])
+}
+
+fn random_bytes(draws: &mut Draws) -> Vec<u8> {
+    let len = near_a_boundary(draws);
+    let mut frame = draws.bytes(len);
+    let mut put = |at: usize, bytes: &[u8]| {
+        if let Some(place) = frame.get_mut(at..at + bytes.len()) {
+            place.copy_from_slice(bytes);
+        }
+    };
+    let kind = draws.one_of(&[[8, 0], [8, 0], [8, 0], [8, 6], [8, 6], [0x86, 0xdd]]);
+    put(TYPE_AT, &kind);
+    if draws.below(3) > 0 {
+        match kind {
+            [8, 6] => {
+                put(20, &[0, draws.below(3) as u8]);
+                put(38, &GATEWAY_IP);
+            }
+            _ => {
+                put(PROTOCOL_AT, &[draws.one_of(&[ICMP, UDP, UDP, TCP])]);
+                put(TARGET_AT, &GATEWAY_IP);
+                let nibble = draws.below(16);
+                put(BODY_AT, &[draws.one_of(&[0x45, 0x40 + nibble as u8])]);
+                let start = BODY_AT + 4 * nibble;
+                put(
+                    start,
+                    &draws.one_of(&[[8, 0, 0, 0], [0, 68, 0, 67], [9, 9, 0, 53]]),
+                );
+                put(start + 4, &[0, draws.one_of(&[7, 8, 9, 20, 255])]);
+            }
+        }
+    }
+    frame
+}
+
+/// A good frame of each kind.
+fn well_formed(draws: &mut Draws) -> Vec<u8> {
+    let options = draws.one_of(&[DISCOVER, REQUEST]);
+    let len = draws.below(60);
+    match draws.below(7) {
+        0 => arp(1, GATEWAY_IP),
+        1 => ping(&draws.bytes(len)),
+        2 => dns_query(),
+        3 => syn(),
+        4 => udp(draws.port(), draws.ip(), draws.port(), &draws.bytes(len)),
+        _ => dhcp(&dhcp_message(draws.word(), &options)),
+    }
+}
+
+fn around_a_boundary(draws: &mut Draws) -> Vec<u8> {
+    let frame = well_formed(draws);
+    let len = near_a_boundary(draws);
+    let (whole, near_its_own) = (
+        frame.len(),
+        (frame.len() + draws.below(5)).saturating_sub(2),
+    );
+    let len = draws.one_of(&[len, near_its_own, whole]);
+    let nibble = draws.below(16) as u8;
+    let frame = of_len(frame, len);
+    if len > BODY_AT && draws.below(4) == 0 {
+        return with(frame, BODY_AT, &[0x40 + nibble]);
+    }
+    frame
+}
+
+const EDGES: [u8; 12] = [0, 1, 2, 3, 7, 8, 53, 67, 68, 127, 128, 255];
+
+/// One to four damages: bits, bytes and words changed, parts cut out, doubled or taken from another.
+fn damaged(draws: &mut Draws, frame: &[u8], other: &[u8]) -> Vec<u8> {
+    let mut frame = frame.to_vec();
+    for _ in 0..1 + draws.below(4) {
+        if frame.is_empty() {
+            break;
+        }
+        // The headers decide most, so most damage is done there.
+        let anywhere = draws.below(frame.len());
+        let in_headers = draws.below(frame.len().min(50));
+        let at = draws.one_of(&[in_headers, in_headers, anywhere]);
+        let (bit, any) = (draws.below(8), draws.byte());
+        let run = (1 + draws.below(12)).min(frame.len() - at);
+        match draws.below(11) {
+            0 | 1 => frame[at] ^= 1 << bit,
+            2 | 3 => frame[at] = draws.one_of(&EDGES),
+            4 => frame[at] = any,
+            5 => frame.truncate(at),
+            6 => frame.extend(draws.bytes(run)),
+            7 => drop(frame.drain(at..at + run)),
+            8 => {
+                let part = frame[at..at + run].to_vec();
+                frame.splice(at..at, part);
+            }
+            9 if at + run <= other.len() => {
+                frame[at..at + run].copy_from_slice(&other[at..at + run]);
+            }
+            _ => {
+                let near = [frame.len() + 2, frame.len() - 1, 8, 65_535, 0];
+                let word = draws.one_of(&near) as u16;
+                let at = at.min(frame.len().saturating_sub(2));
+                let len = frame.len().min(2);
+                frame[at..at + len].copy_from_slice(&word.to_be_bytes()[..len]);
+            }
+        }
+    }
+    frame
+}
+
+fn damaged_capture(draws: &mut Draws, captured: &Captured) -> Vec<u8> {
+    let frame = pick(draws, &captured.frames);
+    let other = pick(draws, &captured.frames);
+    damaged(draws, frame, other)
+}
+
+fn damaged_to_the_gateway(draws: &mut Draws, captured: &Captured) -> Vec<u8> {
+    let mut frame = pick(draws, &captured.frames).to_vec();
+    let target = if frame[TYPE_AT..BODY_AT] == [8, 6] {
+        38
+    } else {
+        TARGET_AT
+    };
+    frame[target..target + 4].copy_from_slice(&GATEWAY_IP);
+    let other = well_formed(draws);
+    damaged(draws, &frame, &other)
+}
+
+/// The damage is done to the message, so the headers around it mostly carry it.
+fn damaged_message(draws: &mut Draws, captured: &Captured) -> Vec<u8> {
+    let message = pick(draws, &captured.messages);
+    let other = pick(draws, &captured.messages);
+    let at = draws.one_of(&[0, COOKIE_AT - 2, OPTIONS_AT - 1]);
+    let tail = damaged(draws, &message[at..], &other[at..]);
+    let frame = dhcp(&[&message[..at], &tail].concat());
+    with_length_near(draws, frame)
+}
+
+/// The frame, its UDP length field now and then a few bytes off.
+fn with_length_near(draws: &mut Draws, frame: Vec<u8>) -> Vec<u8> {
+    let right = (frame.len() - PAYLOAD_AT) as u16;
+    let near = right.wrapping_sub(3).wrapping_add(draws.below(7) as u16);
+    let length = draws.one_of(&[right, right, right, near]);
+    with(frame, UDP_LENGTH_AT, &length.to_be_bytes())
+}
+
+fn option_list(draws: &mut Draws) -> Vec<u8> {
+    let (short, long) = (draws.below(24), draws.below(300));
+    let mut options = match draws.below(4) {
+        0 => option_bytes(draws, short),
+        1 => passed_options(draws, long),
+        _ => passed_options(draws, short),
+    };
+    let (kind, len, value) = (
+        draws.one_of(&[1, 1, 3, 3, 0, 8, 255]),
+        draws.byte(),
+        draws.below(256),
+    );
+    match draws.below(8) {
+        0 => options.extend([TYPE, 1]),
+        1 => options.extend([TYPE, len, kind]),
+        2 => options.push(draws.one_of(&[TYPE, 12, END])),
+        3 => {
+            // A long option to step over, whole or one byte off, and a type behind it.
+            options.extend([draws.one_of(&[12, 43, 252]), value as u8]);
+            options.extend(vec![TYPE; (value + draws.below(3)).saturating_sub(1)]);
+            options.extend([TYPE, 1, kind]);
+        }
+        4 => {}
+        _ => options.extend([TYPE, 1, kind, END]),
+    }
+    let frame = dhcp(&dhcp_message(draws.word(), &options));
+    let frame = with(frame, SOURCE_MAC_AT, &draws.mac());
+    let frame = match draws.below(3) {
+        0 => with(frame, TARGET_AT, &draws.ip()),
+        _ => frame,
+    };
+    with_length_near(draws, frame)
+}
+
+/// An IPv4 header with this many bytes of options, and the payload behind them.
+fn with_ip_options(draws: &mut Draws, protocol: u8, target: [u8; 4], payload: &[u8]) -> Vec<u8> {
+    let words = draws.one_of(&[0, 0, 0, 1, 5, 10]);
+    let options = draws.bytes(4 * words);
+    let frame = packet(protocol, target, &[&options, payload].concat());
+    with(frame, BODY_AT, &[0x45 + words as u8])
+}
+
+fn any_ping(draws: &mut Draws) -> Vec<u8> {
+    let (short, long, edge) = (draws.below(64), draws.below(1_500), draws.one_of(&EDGES));
+    let len = draws.one_of(&[short, short, short, long]);
+    let mut rest = draws.bytes(4 + len);
+    if draws.below(8) == 0 {
+        rest.fill(edge);
+    }
+    let (code, any_target) = (draws.one_of(&[0, 0, 1, 255]), draws.ip());
+    let target = draws.one_of(&[GATEWAY_IP, GATEWAY_IP, GATEWAY_IP, GATEWAY_IP, any_target]);
+    let frame = with_ip_options(draws, ICMP, target, &icmp(8, code, &rest));
+    let frame = with(frame, SOURCE_MAC_AT, &draws.mac());
+    let frame = with(frame, SOURCE_AT, &draws.ip());
+    let padding = draws.below(20);
+    let padding = draws.one_of(&[0, 0, padding]);
+    [frame, draws.bytes(padding)].concat()
+}
+
+fn any_datagram(draws: &mut Draws) -> Vec<u8> {
+    let (short, long) = (draws.below(64), draws.below(1_500));
+    let len = draws.one_of(&[short, short, short, long]);
+    let data = draws.bytes(len);
+    let (source, destination) = (draws.port(), draws.port());
+    let destination = draws.one_of(&[53, destination, destination]);
+    let any_target = draws.ip();
+    let target = draws.one_of(&[GATEWAY_IP, any_target, ELSEWHERE]);
+    let mut datagram = datagram(source, destination, &data);
+    let (near, any) = (
+        (6 + len + draws.below(5)) as u16,
+        draws.below(65_536) as u16,
+    );
+    let length = draws.one_of(&[8 + len as u16, 8 + len as u16, near, any]);
+    datagram = with(datagram, 4, &length.to_be_bytes());
+    with_ip_options(draws, UDP, target, &datagram)
+}
+
+fn other_protocol(draws: &mut Draws) -> Vec<u8> {
+    let len = draws.below(80);
+    let any = draws.byte();
+    let protocol = draws.one_of(&[TCP, TCP, any]);
+    let payload = draws.bytes(len);
+    let target = draws.ip();
+    with_ip_options(draws, protocol, target, &payload)
+}
+
+/// The lengths at the limit come up most: a payload of 65,515 is the longest that is answered.
+pub fn long_ping(draws: &mut Draws) -> Vec<u8> {
+    let any = 65_400 + draws.below(4_601);
+    let near = 65_510 + draws.below(12);
+    let payload_len = draws.one_of(&[65_515, 65_516, near, near, any]);
+    let seed = draws.rule_seed();
+    let rest = crate::lines::ruled_bytes(seed, payload_len - 4);
+    let frame = packet(ICMP, GATEWAY_IP, &icmp(8, 0, &rest));
+    if draws.below(3) > 0 {
+        return frame;
+    }
+    // The payload starts at the source address, whose first byte is an echo's.
+    let frame = with(with(frame, BODY_AT, &[0x43]), SOURCE_AT, &[8]);
+    let shorter = frame.len() - (PAYLOAD_AT - SOURCE_AT);
+    of_len(frame, shorter)
+}

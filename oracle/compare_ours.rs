@@ -1,0 +1,290 @@
+//! Our side of the comparison: the proved code, linked as an object, and the memory lent to it.
+
+use crate::document_01::Record;
+use crate::draws::Draws;
+
+// The functions that compared.rt.txt exports; a slice is a pointer and a length.
+unsafe extern "C" {
+    fn compared_handle(
+        mac: *mut u8,
+        id: *mut u16,
+        xid: *mut u32,
+        frame: *const u8,
+        frame_len: usize,
+        reply: *mut u8,
+        room: usize,
+        values: *mut u64,
+    ) -> u32;
+
+    fn compared_ip_frame(
+        mac: *mut u8,
+        id: *mut u16,
+        xid: *mut u32,
+        dst_mac: *const u8,
+        src_ip: *const u8,
+        dst_ip: *const u8,
+        proto: u8,
+        payload: *const u8,
+        payload_len: usize,
+        out: *mut u8,
+        room: usize,
+        values: *mut u64,
+    ) -> u32;
+
+    fn compared_udp_payload(
+        src_port: u16,
+        dst_port: u16,
+        data: *const u8,
+        data_len: usize,
+        out: *mut u8,
+        room: usize,
+        values: *mut u64,
+    ) -> u32;
+
+    fn compared_tcp_frame(
+        mac: *mut u8,
+        id: *mut u16,
+        xid: *mut u32,
+        dst_mac: *const u8,
+        src_ip: *const u8,
+        src_port: u16,
+        dst_ip: *const u8,
+        dst_port: u16,
+        seq: u32,
+        ack: u32,
+        flags: u8,
+        data: *const u8,
+        data_len: usize,
+        out: *mut u8,
+        room: usize,
+        values: *mut u64,
+    ) -> u32;
+
+    fn compared_checksum(input: *const u8, len: usize) -> u16;
+}
+
+/// What a call of ours answers, beside what it wrote.
+#[derive(Clone, Copy, Debug, PartialEq)]
+pub struct Told {
+    pub number: u32,
+    pub values: [u64; 2],
+    pub after: Record,
+}
+
+/// No call leaves these: each writes both values.
+const UNWRITTEN: [u64; 2] = [u64::MAX; 2];
+
+pub fn handle(record: Record, frame: &[u8], reply: &mut [u8]) -> Told {
+    let (mut after, mut values) = (record, UNWRITTEN);
+    let number = unsafe {
+        compared_handle(
+            after.mac.as_mut_ptr(),
+            &mut after.id,
+            &mut after.xid,
+            frame.as_ptr(),
+            frame.len(),
+            reply.as_mut_ptr(),
+            reply.len(),
+            values.as_mut_ptr(),
+        )
+    };
+    Told {
+        number,
+        values,
+        after,
+    }
+}
+
+pub fn ip_frame(
+    record: Record,
+    (dst_mac, src_ip, dst_ip): ([u8; 6], [u8; 4], [u8; 4]),
+    proto: u8,
+    payload: &[u8],
+    out: &mut [u8],
+) -> Told {
+    let (mut after, mut values) = (record, UNWRITTEN);
+    let number = unsafe {
+        compared_ip_frame(
+            after.mac.as_mut_ptr(),
+            &mut after.id,
+            &mut after.xid,
+            dst_mac.as_ptr(),
+            src_ip.as_ptr(),
+            dst_ip.as_ptr(),
+            proto,
+            payload.as_ptr(),
+            payload.len(),
+            out.as_mut_ptr(),
+            out.len(),
+            values.as_mut_ptr(),
+        )
+    };
+    Told {
+        number,
+        values,
+        after,
+    }
+}
+
+/// A datagram takes no id, so the record is handed back as it is.
+pub fn udp_payload(
+    record: Record,
+    src_port: u16,
+    dst_port: u16,
+    data: &[u8],
+    out: &mut [u8],
+) -> Told {
+    let mut values = UNWRITTEN;
+    let number = unsafe {
+        compared_udp_payload(
+            src_port,
+            dst_port,
+            data.as_ptr(),
+            data.len(),
+            out.as_mut_ptr(),
+            out.len(),
+            values.as_mut_ptr(),
+        )
+    };
+    Told {
+        number,
+        values,
+        after: record,
+    }
+}
+
+pub struct Segment {
+    pub dst_mac: [u8; 6],
+    pub src: ([u8; 4], u16),
+    pub dst: ([u8; 4], u16),
+    pub seq: u32,
+    pub ack: u32,
+    pub flags: u8,
+}
+
+pub fn tcp_frame(record: Record, segment: &Segment, data: &[u8], out: &mut [u8]) -> Told {
+    let (mut after, mut values) = (record, UNWRITTEN);
+    let number = unsafe {
+        compared_tcp_frame(
+            after.mac.as_mut_ptr(),
+            &mut after.id,
+            &mut after.xid,
+            segment.dst_mac.as_ptr(),
+            segment.src.0.as_ptr(),
+            segment.src.1,
+            segment.dst.0.as_ptr(),
+            segment.dst.1,
+            segment.seq,
+            segment.ack,
+            segment.flags,
+            data.as_ptr(),
+            data.len(),
+            out.as_mut_ptr(),
+            out.len(),
+            values.as_mut_ptr(),
+        )
+    };
+    Told {
+        number,
+        values,
+        after,
+    }
+}
+
+pub fn checksum(input: &[u8]) -> u16 {
+    unsafe { compared_checksum(input.as_ptr(), input.len()) }
+}
+
+/// Bytes around what is lent, which no call may touch.
+const MARGIN: usize = 64;
+const PERIOD: usize = 251;
+
+/// The buffer that is lent for replies: drawn bytes, others in each call, so that a byte written by
+/// mistake is not by chance the one that stood there every time.
+pub struct Buffer {
+    bytes: Vec<u8>,
+    drawn: Vec<u8>,
+    shift: usize,
+}
+
+impl Buffer {
+    pub fn new(most: usize, draws: &mut Draws) -> Self {
+        Buffer {
+            bytes: vec![0; most + 2 * MARGIN],
+            drawn: draws.bytes(most + 2 * MARGIN + PERIOD),
+            shift: 0,
+        }
+    }
+
+    pub fn lend(&mut self, room: usize) -> &mut [u8] {
+        self.shift = (self.shift + 1) % PERIOD;
+        let around = room + 2 * MARGIN;
+        self.bytes[..around].copy_from_slice(&self.drawn[self.shift..self.shift + around]);
+        &mut self.bytes[MARGIN..MARGIN + room]
+    }
+
+    pub fn lent(&self, room: usize) -> &[u8] {
+        &self.bytes[MARGIN..MARGIN + room]
+    }
+
+    /// Where the buffer is not these bytes and, around them, what it was when it was lent: the first
+    /// such place, counted from the buffer's first byte.
+    pub fn first_wrong(&self, room: usize, written: &[u8]) -> Option<isize> {
+        let (written_to, around) = (MARGIN + written.len(), room + 2 * MARGIN);
+        let was = &self.drawn[self.shift..self.shift + around];
+        let is = &self.bytes[..around];
+        if is[..MARGIN] == was[..MARGIN]
+            && is[MARGIN..written_to] == *written
+            && is[written_to..] == was[written_to..]
+        {
+            return None;
+        }
+        let right = |at: usize| match at.checked_sub(MARGIN) {
+            Some(place) if place < written.len() => written[place],
+            _ => was[at],
+        };
+        (0..around)
+            .find(|at| is[*at] != right(*at))
+            .map(|at| at as isize - MARGIN as isize)
+    }
+}
+
+/// The frame as both sides are handed it. What stands behind it in memory says by turns other things,
+/// so that reading past its end shows.
+pub struct Lent {
+    bytes: Vec<u8>,
+    len: usize,
+    turn: usize,
+}
+
+const BEHIND: [[u8; 8]; 4] = [
+    [1, 1, 1, 1, 1, 1, 1, 1],
+    [53, 1, 3, 53, 1, 3, 53, 1],
+    [3, 3, 3, 3, 3, 3, 3, 3],
+    [0xff; 8],
+];
+
+impl Lent {
+    pub fn new() -> Self {
+        Lent {
+            bytes: vec![],
+            len: 0,
+            turn: 0,
+        }
+    }
+
+    pub fn set(&mut self, frame: &[u8]) {
+        self.turn += 1;
+        self.len = frame.len();
+        self.bytes.clear();
+        self.bytes.extend_from_slice(frame);
+        for _ in 0..MARGIN / 8 {
+            self.bytes
+                .extend_from_slice(&BEHIND[self.turn % BEHIND.len()]);
+        }
+    }
+
+    pub fn frame(&self) -> &[u8] {
+        &self.bytes[..self.len]
+    }
+}

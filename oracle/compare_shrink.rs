@@ -1,0 +1,139 @@
+//! A call on which the two sides differ, made as small and as plain as can be.
+
+use std::time::{Duration, Instant};
+
+use crate::compare_call::{Difference, Input, Sides};
+use crate::draws::GUEST_MAC;
+use crate::gateway_cases::{FRESH, USUAL_ROOM};
+use crate::lines::hex;
+
+const LONGEST: Duration = Duration::from_secs(20);
+/// What `gwone` reads.
+const MOST_READ: usize = 2_048;
+
+struct Shrinking<'a> {
+    sides: &'a mut Sides,
+    best: Input,
+    difference: Difference,
+    /// Every call is made with this id, where there is one; else with the id that comes next.
+    id: Option<u16>,
+    until: Instant,
+}
+
+impl Shrinking<'_> {
+    /// Takes the input if the two still differ on it.
+    fn try_input(&mut self, input: Input) -> bool {
+        if Instant::now() > self.until {
+            return false;
+        }
+        if let Some(id) = self.id {
+            self.sides.rust.bring_id_to(id);
+        }
+        let Err(difference) = self.sides.compare(&input) else {
+            return false;
+        };
+        (self.best, self.difference) = (input, difference);
+        true
+    }
+
+    fn try_change(&mut self, change: impl FnOnce(&mut Input)) -> bool {
+        let mut input = self.best.clone();
+        change(&mut input);
+        self.try_input(input)
+    }
+
+    /// Cuts pieces out, from the end on and larger ones first, until none can go.
+    fn cut_pieces(&mut self) {
+        let mut size = self.best.bytes.len();
+        while size > 0 {
+            let mut end = self.best.bytes.len();
+            while end >= size && size > 0 {
+                let start = end - size;
+                self.try_change(|input| drop(input.bytes.drain(start..end)));
+                end = start.min(self.best.bytes.len());
+            }
+            size /= 2;
+        }
+    }
+
+    fn make_zero(&mut self) {
+        let mut size = self.best.bytes.len();
+        while size > 0 {
+            for start in (0..self.best.bytes.len()).step_by(size) {
+                let end = (start + size).min(self.best.bytes.len());
+                if self.best.bytes[start..end].iter().any(|byte| *byte != 0) {
+                    self.try_change(|input| input.bytes[start..end].fill(0));
+                }
+            }
+            size /= 2;
+        }
+    }
+
+    fn shrink_bytes(&mut self) {
+        loop {
+            let before = self.best.bytes.clone();
+            self.cut_pieces();
+            self.make_zero();
+            if before == self.best.bytes || Instant::now() > self.until {
+                return;
+            }
+        }
+    }
+}
+
+/// What is printed of the first difference.
+pub fn report(sides: &mut Sides, input: Input, difference: Difference) -> String {
+    let first_len = input.bytes.len();
+    let until = Instant::now() + LONGEST;
+    let mut shrinking = Shrinking {
+        sides,
+        best: input,
+        difference,
+        id: None,
+        until,
+    };
+    // First towards what `gwone` does: its record, its room.
+    shrinking.try_change(|input| input.mac = GUEST_MAC);
+    shrinking.try_change(|input| input.xid = FRESH.xid);
+    shrinking.try_change(|input| input.room = USUAL_ROOM);
+    shrinking.shrink_bytes();
+    let mut shows_with_gwone = false;
+    if shrinking.best.builder.is_none() {
+        shrinking.id = Some(FRESH.id);
+        let best = shrinking.best.clone();
+        shrinking.try_change(|input| input.room = USUAL_ROOM);
+        shows_with_gwone = shrinking.try_input(Input {
+            mac: FRESH.mac,
+            xid: FRESH.xid,
+            room: USUAL_ROOM,
+            ..best
+        }) && shrinking.best.bytes.len() <= MOST_READ;
+    }
+    let (best, difference) = (shrinking.best, shrinking.difference);
+    let mut text = format!(
+        "The two sides differ in: {}\nexpected: {}\nours:     {}\n",
+        difference.what, difference.expected, difference.ours
+    );
+    text += &match &best.builder {
+        Some(builder) => format!("call: {builder:?}\n"),
+        None => String::new(),
+    };
+    text += &format!(
+        "record before: mac {}, id {}, xid {:#010x}; room {}; {} bytes, shrunk from {first_len}\n",
+        hex(&best.mac),
+        difference.id,
+        best.xid,
+        best.room,
+        best.bytes.len()
+    );
+    let bytes = hex(&best.bytes);
+    text += &match (&best.builder, shows_with_gwone) {
+        (Some(_), _) => format!("payload: {bytes}\n"),
+        (None, true) => format!("printf {bytes} | xxd -r -p | ./gwone\n"),
+        (None, false) => format!(
+            "printf {bytes} | xxd -r -p | ./gwone\n(but gwone has mac {}, id 1, xid 0, room {USUAL_ROOM} and reads {MOST_READ} bytes: there the difference does not show)\n",
+            hex(&GUEST_MAC)
+        ),
+    };
+    text
+}
