@@ -46,16 +46,17 @@ use std::sync::mpsc::{RecvTimeoutError, Sender, channel};
 use std::thread;
 use std::time::{Duration, Instant};
 
+use compare_every::EVERY;
 use compare_tally::{Row, grouped, sum};
 use compare_worker::Plan;
 
 const USAGE: &str = "usage: compare [--seed NUMBER] [--frames NUMBER] [--processes NUMBER] [--sample NUMBER]
   --seed       what the inputs are drawn from; the same seed, frames and processes make the same inputs
-  --frames     how many frames in all (12,000,000)
+  --frames     how many frames in all (60,000,000)
   --processes  how many processes, each with its own Rust and its own id counter (1)
   --sample     print so many lines for replay of each class and verdict, and no table";
 
-const FRAMES: u64 = 12_000_000;
+const FRAMES: u64 = 60_000_000;
 /// A run of this many frames or more has to reach every verdict in its table.
 const NO_SMALL_RUN: u64 = 1_000_000;
 
@@ -275,13 +276,28 @@ fn started(plan: &Plan, process: usize, sender: Sender<Heard>) -> Child {
     child
 }
 
+/// How much of an exhaustive class was visited.
+fn visited(calls: u64, of_all: Option<u64>) -> String {
+    match of_all {
+        None => String::new(),
+        Some(all) if calls == all => "   all".to_string(),
+        Some(all) => format!("   of {}", grouped(all)),
+    }
+}
+
 /// Prints the table, and says whether nothing in it was starved.
 fn table(plan: &Plan, told: &Told, took: Duration) -> bool {
     let frames = sum("all frames", &told.rows);
     let builders = sum("all builder calls", &told.builders);
     println!("{}", compare_tally::head());
     for row in told.rows.iter().chain([&frames]) {
-        println!("{}", compare_tally::line(row));
+        let every = EVERY.iter().find(|class| class.name == row.name);
+        let of_all = every.map(|class| class.size as u64);
+        println!(
+            "{}{}",
+            compare_tally::line(row),
+            visited(row.calls(), of_all)
+        );
     }
     println!();
     for row in told.builders.iter().chain([&builders]) {
@@ -294,7 +310,7 @@ fn table(plan: &Plan, told: &Told, took: Duration) -> bool {
         grouped(frames.cuts + builders.cuts)
     );
     println!(
-        "seed {:#018x}, {} processes, {:.0} s: {} frames, {} builder calls, 0 differences",
+        "seed {:#018x}, processes {}, {:.0} s: {} frames, {} builder calls, 0 differences",
         plan.seed,
         plan.processes,
         took.as_secs_f64(),

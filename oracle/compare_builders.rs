@@ -6,14 +6,15 @@ use crate::ask_gateway::Whose;
 use crate::cases::SYN;
 use crate::compare_ours::{self, Segment, Told};
 use crate::compare_rust::{TheRust, cut, number};
-use crate::document_01::{Answer, Record, Verdict};
+use crate::document_01::{self, Answer, Record, Verdict};
 use crate::draws::Draws;
 
-pub const NAMES: [&str; 4] = [
+pub const NAMES: [&str; 5] = [
     "make_ip_frame",
     "make_udp_payload",
     "make_tcp_frame",
     "checksum",
+    "checksum past 131,074 bytes, by document 01's rule",
 ];
 
 #[derive(Clone, Debug)]
@@ -35,10 +36,14 @@ pub enum Builder {
         flags: u8,
     },
     Checksum,
+    /// The Rust's 32-bit sum is not certain here, so it is not asked.
+    LongChecksum,
 }
 
 /// A checksum is compared as if it had been written into a buffer of its size.
 const CHECKSUM_LEN: usize = 2;
+const TURNS_TO_A_LONG_CHECKSUM: usize = 200;
+const LONGEST_OF_THE_RUST: usize = 131_074;
 
 /// The bytes before the payload, and where a length is cut to 16 bits: the longest payload.
 fn head_and_limit(builder: &Builder) -> (usize, usize) {
@@ -47,7 +52,7 @@ fn head_and_limit(builder: &Builder) -> (usize, usize) {
         Builder::Udp { .. } => (8, 65_527),
         Builder::Tcp { flags, .. } if flags & SYN != 0 => (62, 65_487),
         Builder::Tcp { .. } => (54, 65_495),
-        Builder::Checksum => (0, 131_074),
+        Builder::Checksum | Builder::LongChecksum => (0, LONGEST_OF_THE_RUST),
     }
 }
 
@@ -58,6 +63,7 @@ impl Builder {
             Builder::Udp { .. } => 1,
             Builder::Tcp { .. } => 2,
             Builder::Checksum => 3,
+            Builder::LongChecksum => 4,
         }
     }
 
@@ -80,6 +86,7 @@ impl Builder {
                 ack: draws.word(),
                 flags: (turn / 8 * 3 + turn % 8 - 4) as u8,
             },
+            _ if turn / 8 % TURNS_TO_A_LONG_CHECKSUM == 0 => Builder::LongChecksum,
             _ => Builder::Checksum,
         }
     }
@@ -87,6 +94,10 @@ impl Builder {
     /// A payload: mostly short, now and then long, seldom around the limit.
     pub fn payload(&self, draws: &mut Draws) -> Vec<u8> {
         let (_, limit) = head_and_limit(self);
+        if matches!(self, Builder::LongChecksum) {
+            let (len, any) = (limit + 1 + draws.below(170_000), draws.byte());
+            return vec![draws.one_of(&[0xff, 0xff, 0xff, any]); len];
+        }
         let len = match draws.below(400) {
             0 if self.is_checksum() => limit - draws.below(4),
             0 => limit - 2 + draws.below(6),
@@ -103,7 +114,7 @@ impl Builder {
     }
 
     fn is_checksum(&self) -> bool {
-        matches!(self, Builder::Checksum)
+        matches!(self, Builder::Checksum | Builder::LongChecksum)
     }
 
     /// The buffer lent: what is needed, around it, none, or ample.
@@ -151,6 +162,7 @@ impl Builder {
                 flags,
             } => SlirpBackend::make_tcp_frame(*dst_mac, *src, *dst, *seq, *ack, *flags, payload),
             Builder::Checksum => SlirpBackend::checksum(payload).to_be_bytes().to_vec(),
+            Builder::LongChecksum => document_01::checksum(payload).to_vec(),
         };
         let mut after = record;
         let is_cut = match self {
@@ -160,7 +172,7 @@ impl Builder {
                 cut(&built)
             }
             Builder::Udp { .. } => number(&built[4..6]) != built.len(),
-            Builder::Checksum => false,
+            Builder::Checksum | Builder::LongChecksum => false,
         };
         let (verdict, reply, after, whose) = if is_cut {
             let verdict = Verdict::TooLong(payload.len());
@@ -206,8 +218,9 @@ impl Builder {
                 };
                 compare_ours::tcp_frame(record, &segment, payload, out)
             }
-            Builder::Checksum => {
-                out.copy_from_slice(&compare_ours::checksum(payload).to_be_bytes());
+            Builder::Checksum | Builder::LongChecksum => {
+                let sum = compare_ours::checksum(payload).to_be_bytes();
+                out[..CHECKSUM_LEN].copy_from_slice(&sum);
                 Told {
                     number: 1,
                     values: [CHECKSUM_LEN as u64, 0],

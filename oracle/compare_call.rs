@@ -23,6 +23,8 @@ pub struct Input {
 pub struct Difference {
     pub what: String,
     pub expected: String,
+    /// Whose answer is expected.
+    pub whose: &'static str,
     pub ours: String,
     /// The record's id in this call.
     pub id: u16,
@@ -68,9 +70,15 @@ impl Sides {
             None => compare_ours::handle(record, bytes, out),
             Some(builder) => builder.ours(record, bytes, out),
         };
+        let whose_words = match (&rusts, &input.builder) {
+            (_, Some(Builder::LongChecksum)) => "document 01's rule; the Rust is not asked",
+            (Ok((_, whose)), _) => words_for(*whose),
+            (Err(_), _) => "what document 01 does not know of",
+        };
         let difference = |what: String, expected: String| Difference {
             what,
             expected,
+            whose: whose_words,
             ours: shown_ours(&told, self.buffer.lent(room)),
             id: record.id,
         };
@@ -116,6 +124,15 @@ impl Sides {
                 "byte {place} of the buffer, which was not to be touched"
             ))
         }
+    }
+}
+
+fn words_for(whose: Whose) -> &'static str {
+    match whose {
+        Whose::TheRust => "the Rust's own answer",
+        Whose::WherePanics => "document 01's answer, where the Rust panics",
+        Whose::WhereCuts => "document 01's answer, where the Rust cuts a length",
+        Whose::WhereNoRoom => "document 01's answer, where the Rust's is longer than the room",
     }
 }
 

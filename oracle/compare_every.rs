@@ -13,9 +13,9 @@ pub struct Every {
 
 pub const EVERY: [Every; 11] = [
     Every {
-        name: "every frame of 0 to 13 bytes of 00, 08",
-        size: strings(2, 13),
-        frame: |n| string(&[0x00, 0x08], n),
+        name: "every frame of 0 to 13 bytes of 00 06 08",
+        size: strings(3, 13),
+        frame: |n| string(&[0x00, 0x06, 0x08], n),
     },
     Every {
         name: "every 0 to 6 bytes of 00 01 06 08 45 ff behind MACs",
@@ -34,8 +34,8 @@ pub const EVERY: [Every; 11] = [
         frame: |n| with(of_len(ping(&[]), 60), TYPE_AT, &(n as u16).to_be_bytes()),
     },
     Every {
-        name: "every 0 to 7 option bytes of 0 1 2 3 53 255",
-        size: strings(OPTION_BYTES.len(), 7),
+        name: "every 0 to 8 option bytes of 0 1 2 3 53 255",
+        size: strings(OPTION_BYTES.len(), 8),
         frame: |n| dhcp(&dhcp_message(0x3903_f326, &string(&OPTION_BYTES, n))),
     },
     Every {

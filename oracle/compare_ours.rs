@@ -249,10 +249,11 @@ impl Buffer {
     }
 }
 
-/// The frame as both sides are handed it. What stands behind it in memory says by turns other things,
-/// so that reading past its end shows.
+/// The frame as both sides are handed it. By turns it ends where memory does, so that reading past its
+/// end crashes, and stands before bytes that say other things each time, so that it shows.
 pub struct Lent {
-    bytes: Vec<u8>,
+    memory: &'static mut [u8],
+    start: usize,
     len: usize,
     turn: usize,
 }
@@ -264,10 +265,34 @@ const BEHIND: [[u8; 8]; 4] = [
     [0xff; 8],
 ];
 
+const MEMORY: usize = 512 * 1024;
+/// A multiple of every machine's page.
+const OUT_OF_REACH: usize = 64 * 1024;
+
+unsafe extern "C" {
+    fn mmap(at: *mut u8, len: usize, access: i32, kind: i32, file: i32, offset: i64) -> *mut u8;
+    fn mprotect(at: *mut u8, len: usize, access: i32) -> i32;
+}
+
+/// Memory that can be read and written, and that ends where nothing can.
+fn memory_with_an_end() -> &'static mut [u8] {
+    const READ_AND_WRITE: i32 = 1 | 2;
+    const PRIVATE_AND_FROM_NO_FILE: i32 = 0x02 | 0x20;
+    unsafe {
+        let null = std::ptr::null_mut();
+        let whole = MEMORY + OUT_OF_REACH;
+        let at = mmap(null, whole, READ_AND_WRITE, PRIVATE_AND_FROM_NO_FILE, -1, 0);
+        assert!(at as isize != -1, "no memory");
+        assert_eq!(mprotect(at.add(MEMORY), OUT_OF_REACH, 0), 0);
+        std::slice::from_raw_parts_mut(at, MEMORY)
+    }
+}
+
 impl Lent {
     pub fn new() -> Self {
         Lent {
-            bytes: vec![],
+            memory: memory_with_an_end(),
+            start: 0,
             len: 0,
             turn: 0,
         }
@@ -276,15 +301,16 @@ impl Lent {
     pub fn set(&mut self, frame: &[u8]) {
         self.turn += 1;
         self.len = frame.len();
-        self.bytes.clear();
-        self.bytes.extend_from_slice(frame);
-        for _ in 0..MARGIN / 8 {
-            self.bytes
-                .extend_from_slice(&BEHIND[self.turn % BEHIND.len()]);
+        let behind = if self.turn % 2 == 0 { MARGIN } else { 0 };
+        self.start = MEMORY - behind - self.len;
+        self.memory[self.start..MEMORY - behind].copy_from_slice(frame);
+        let said = BEHIND[self.turn / 2 % BEHIND.len()];
+        for eight in self.memory[MEMORY - behind..].chunks_mut(8) {
+            eight.copy_from_slice(&said);
         }
     }
 
     pub fn frame(&self) -> &[u8] {
-        &self.bytes[..self.len]
+        &self.memory[self.start..self.start + self.len]
     }
 }

@@ -5,6 +5,7 @@ use std::time::{Duration, Instant};
 use crate::compare_call::{Difference, Input, Sides};
 use crate::draws::GUEST_MAC;
 use crate::gateway_cases::{FRESH, USUAL_ROOM};
+use crate::guest_frames::{BODY_AT, PAYLOAD_AT};
 use crate::lines::hex;
 
 const LONGEST: Duration = Duration::from_secs(20);
@@ -69,9 +70,24 @@ impl Shrinking<'_> {
         }
     }
 
+    /// Takes the IPv4 options out, where that is what is compared.
+    fn plain_header(&mut self) {
+        let nibble = self.best.bytes.get(BODY_AT).map_or(0, |byte| byte % 16);
+        let payload_at = BODY_AT + 4 * usize::from(nibble);
+        if self.best.builder.is_none()
+            && (PAYLOAD_AT + 1..=self.best.bytes.len()).contains(&payload_at)
+        {
+            self.try_change(|input| {
+                input.bytes[BODY_AT] = 0x45;
+                input.bytes.drain(PAYLOAD_AT..payload_at);
+            });
+        }
+    }
+
     fn shrink_bytes(&mut self) {
         loop {
             let before = self.best.bytes.clone();
+            self.plain_header();
             self.cut_pieces();
             self.make_zero();
             if before == self.best.bytes || Instant::now() > self.until {
@@ -111,13 +127,12 @@ pub fn report(sides: &mut Sides, input: Input, difference: Difference) -> String
     }
     let (best, difference) = (shrinking.best, shrinking.difference);
     let mut text = format!(
-        "The two sides differ in: {}\nexpected: {}\nours:     {}\n",
-        difference.what, difference.expected, difference.ours
+        "The two sides differ in: {}\nexpected: {}\n    ({})\nours:     {}\n",
+        difference.what, difference.expected, difference.whose, difference.ours
     );
-    text += &match &best.builder {
-        Some(builder) => format!("call: {builder:?}\n"),
-        None => String::new(),
-    };
+    if let Some(builder) = &best.builder {
+        text += &format!("call: {builder:?}\n");
+    }
     text += &format!(
         "record before: mac {}, id {}, xid {:#010x}; room {}; {} bytes, shrunk from {first_len}\n",
         hex(&best.mac),
@@ -126,14 +141,28 @@ pub fn report(sides: &mut Sides, input: Input, difference: Difference) -> String
         best.room,
         best.bytes.len()
     );
-    let bytes = hex(&best.bytes);
-    text += &match (&best.builder, shows_with_gwone) {
-        (Some(_), _) => format!("payload: {bytes}\n"),
-        (None, true) => format!("printf {bytes} | xxd -r -p | ./gwone\n"),
-        (None, false) => format!(
-            "printf {bytes} | xxd -r -p | ./gwone\n(but gwone has mac {}, id 1, xid 0, room {USUAL_ROOM} and reads {MOST_READ} bytes: there the difference does not show)\n",
-            hex(&GUEST_MAC)
-        ),
+    text += &match (&best.builder, &best.bytes[..]) {
+        (Some(_), [one, same @ ..]) if same.iter().all(|byte| byte == one) => {
+            format!("the payload: {} bytes of {one:02x}\n", best.bytes.len())
+        }
+        (Some(_), bytes) => format!("the payload: {}\n", printed(bytes)),
+        (None, bytes) => format!("{} | ./gwone\n", printed(bytes)),
     };
+    if best.builder.is_none() && !shows_with_gwone {
+        text += &format!(
+            "(gwone has mac {}, id 1, xid 0, a room of {USUAL_ROOM} and reads at most {MOST_READ} bytes: with these it does not show)\n",
+            hex(&GUEST_MAC)
+        );
+    }
     text
+}
+
+/// The command that prints these bytes; many zeros at their end are not written out.
+fn printed(bytes: &[u8]) -> String {
+    let zeros = bytes.iter().rev().take_while(|byte| **byte == 0).count();
+    if zeros < 64 {
+        return format!("printf '{}' | xxd -r -p", hex(bytes));
+    }
+    let written = hex(&bytes[..bytes.len() - zeros]);
+    format!("{{ printf '{written}' | xxd -r -p; head -c {zeros} /dev/zero; }}")
 }

@@ -30,9 +30,14 @@ pub struct Plan {
 const ROOMS: &str = "a reply's frame once more, the room around its length";
 /// A builder is called behind this many turns.
 const TURNS_TO_A_BUILDER: u64 = 8;
+/// In about this many rounds each exhaustive class has been visited whole.
+const ROUNDS_TO_ALL: usize = 200_000;
 /// Rounds of all classes to one long ping.
 const ROUNDS_TO_A_LONG_PING: u64 = 24;
-const LARGEST_PAYLOAD: usize = 140_000;
+/// No call is lent more.
+const LARGEST_ROOM: usize = 80_000;
+/// Around a payload of 65,515 bytes.
+const LONGEST_REPLY: usize = 65_549;
 
 /// Rows of the table: the exhaustive classes, the drawn ones, and these two.
 const LONG_PING_ROW: usize = EVERY.len() + DRAWN.len();
@@ -109,7 +114,7 @@ impl Worker {
             step: coprime_step(class.size),
         });
         Worker {
-            sides: Sides::new(LARGEST_PAYLOAD, &mut draws),
+            sides: Sides::new(LARGEST_ROOM, &mut draws),
             captured: Captured::new(),
             visits: visits.collect(),
             rows: names.chain([LONG_PINGS, ROOMS]).map(Row::new).collect(),
@@ -127,8 +132,8 @@ impl Worker {
         let mut turns = 0;
         for round in 0.. {
             for (class, every) in EVERY.iter().enumerate() {
-                // The largest class has more turns, so that it is through with the others.
-                for _ in 0..1 + every.size / 100_000 {
+                // Large classes have more turns, so that they are through with the others.
+                for _ in 0..1 + every.size / ROUNDS_TO_ALL {
                     let visit = &mut self.visits[class];
                     if visit.next < every.size {
                         let element = visit.next * visit.step % every.size;
@@ -153,7 +158,10 @@ impl Worker {
             }
             if round % ROUNDS_TO_A_LONG_PING == 0 {
                 let frame = long_ping(&mut self.draws);
-                self.frame(LONG_PING_ROW, frame, MOST_ROOM)?;
+                // 6 is decided before 5, so a payload that is too long has to meet small rooms too.
+                let rooms = [MOST_ROOM, MOST_ROOM, LONGEST_REPLY, LONGEST_REPLY - 1, 0];
+                let room = self.draws.one_of(&rooms);
+                self.frame(LONG_PING_ROW, frame, room)?;
             }
             if round % 64 == 0 {
                 assert!(self.sides.rust.counter_is_followed());

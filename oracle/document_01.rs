@@ -222,7 +222,7 @@ pub fn ip_frame(
     [mac, &GATEWAY_MAC, &[0x08, 0x00], &header, payload].concat()
 }
 
-fn checksum(bytes: &[u8]) -> [u8; 2] {
+pub fn checksum(bytes: &[u8]) -> [u8; 2] {
     let total: u64 = bytes
         .chunks(2)
         .map(|word| number(&[word[0], *word.get(1).unwrap_or(&0)]))
