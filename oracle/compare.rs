@@ -54,7 +54,7 @@ const USAGE: &str = "usage: compare [--seed NUMBER] [--frames NUMBER] [--process
   --seed       what the inputs are drawn from; the same seed, frames and processes make the same inputs
   --frames     how many frames in all (60,000,000)
   --processes  how many processes, each with its own Rust and its own id counter (1)
-  --sample     print so many lines for replay of each class and verdict, and no table";
+  --sample     print so many lines for replay of each class and verdict; the table goes to standard error";
 
 const FRAMES: u64 = 60_000_000;
 /// A run of this many frames or more has to reach every verdict in its table.
@@ -170,7 +170,7 @@ fn add(rows: &mut Vec<Row>, row: Row) {
 fn run(plan: &Plan) -> bool {
     let began = Instant::now();
     eprintln!(
-        "seed {:#018x}, {} frames, {} {}",
+        "seed {:#x}, {} frames, {} {}",
         plan.seed,
         grouped(plan.frames),
         plan.processes,
@@ -237,18 +237,25 @@ fn run(plan: &Plan) -> bool {
     if told.differs || told.done < children.len() {
         print!("{}", told.text);
         println!(
-            "seed {:#018x}: the sides differ, or a process did not end",
+            "seed {:#x}: the sides differ, or a process did not end",
             plan.seed
         );
         return false;
     }
-    if plan.sample > 0 {
-        for line in &told.samples {
-            println!("{line}");
-        }
-        return true;
+    let (text, good) = table(plan, &told, began.elapsed());
+    if plan.sample == 0 {
+        print!("{text}");
+        return good;
     }
-    table(plan, &told, began.elapsed())
+    eprint!("{text}");
+    println!(
+        "# oracle/compare --seed {:#x} --frames {} --processes {} --sample {}",
+        plan.seed, plan.frames, plan.processes, plan.sample
+    );
+    for line in &told.samples {
+        println!("{line}");
+    }
+    good
 }
 
 fn started(plan: &Plan, process: usize, sender: Sender<Heard>) -> Child {
@@ -285,55 +292,49 @@ fn visited(calls: u64, of_all: Option<u64>) -> String {
     }
 }
 
-/// Prints the table, and says whether nothing in it was starved.
-fn table(plan: &Plan, told: &Told, took: Duration) -> bool {
+/// The table, and whether nothing in it was starved.
+fn table(plan: &Plan, told: &Told, took: Duration) -> (String, bool) {
     let frames = sum("all frames", &told.rows);
     let builders = sum("all builder calls", &told.builders);
-    println!("{}", compare_tally::head());
+    let mut lines = vec![compare_tally::head()];
     for row in told.rows.iter().chain([&frames]) {
         let every = EVERY.iter().find(|class| class.name == row.name);
         let of_all = every.map(|class| class.size as u64);
-        println!(
-            "{}{}",
-            compare_tally::line(row),
-            visited(row.calls(), of_all)
-        );
+        lines.push(compare_tally::line(row) + &visited(row.calls(), of_all));
     }
-    println!();
+    lines.push(String::new());
     for row in told.builders.iter().chain([&builders]) {
-        println!("{}", compare_tally::line(row));
+        lines.push(compare_tally::line(row));
     }
-    println!(
+    lines.push(format!(
         "\nThe id went from 65,535 to 0 {} times; the Rust panicked {} times and cut a length {} times.",
         told.wraps,
-        grouped(frames.panics),
+        grouped(frames.panics + builders.panics),
         grouped(frames.cuts + builders.cuts)
-    );
-    println!(
-        "seed {:#018x}, processes {}, {:.0} s: {} frames, {} builder calls, 0 differences",
+    ));
+    lines.push(format!(
+        "seed {:#x}, processes {}, {:.0} s: {} frames, {} builder calls, 0 differences",
         plan.seed,
         plan.processes,
         took.as_secs_f64(),
         grouped(frames.calls()),
         grouped(builders.calls())
-    );
+    ));
     let built = [1, 5, 6].map(|verdict| builders.verdicts[verdict]);
-    let counts = frames.verdicts.iter().chain(&built).chain([
-        &told.wraps,
-        &frames.panics,
-        &frames.cuts,
-        &builders.cuts,
-    ]);
-    let starved = counts.into_iter().any(|count| *count == 0)
-        || told
-            .rows
-            .iter()
-            .chain(&told.builders)
-            .any(|row| row.calls() == 0);
+    let deeds = [told.wraps, frames.panics, frames.cuts, builders.cuts];
+    let rows = told.rows.iter().chain(&told.builders).map(Row::calls);
+    let mut counts = frames
+        .verdicts
+        .into_iter()
+        .chain(built)
+        .chain(deeds)
+        .chain(rows);
+    let starved = plan.frames >= NO_SMALL_RUN && counts.any(|count| count == 0);
     let counted = (frames.calls(), builders.calls()) == told.calls();
-    if !counted || starved && plan.frames >= NO_SMALL_RUN {
-        println!("but a verdict, a class or a deed was never met, or calls were not counted");
-        return false;
+    if starved || !counted {
+        lines.push(
+            "but a verdict, a class or a deed was never met, or calls were not counted".to_string(),
+        );
     }
-    true
+    (lines.join("\n") + "\n", counted && !starved)
 }

@@ -1,20 +1,25 @@
-//! Calls of the builders and of the checksum, compared with the Rust's.
+//! Calls of the builders, the option walk and the checksum, compared with the Rust's.
 
 use published::SlirpBackend;
+use std::thread;
 
 use crate::ask_gateway::Whose;
 use crate::cases::SYN;
 use crate::compare_ours::{self, Segment, Told};
-use crate::compare_rust::{TheRust, cut, number};
+use crate::compare_rust::{TheRust, caught, cut, number, verdict_of_panic};
+use crate::dhcp_vectors::option_bytes;
 use crate::document_01::{self, Answer, Record, Verdict};
 use crate::draws::Draws;
+use crate::guest_frames::OPTIONS_AT;
 
-pub const NAMES: [&str; 5] = [
+pub const NAMES: [&str; 7] = [
     "make_ip_frame",
     "make_udp_payload",
     "make_tcp_frame",
     "checksum",
     "checksum past 131,074 bytes, by document 01's rule",
+    "build_reply of DHCP",
+    "message_type of DHCP",
 ];
 
 #[derive(Clone, Debug)]
@@ -38,10 +43,19 @@ pub enum Builder {
     Checksum,
     /// The Rust's 32-bit sum is not certain here, so it is not asked.
     LongChecksum,
+    /// The payload is not looked at; MAC and xid are the record's.
+    DhcpReply {
+        kind: u8,
+    },
+    /// The payload is the message.
+    MessageType,
 }
 
 /// A checksum is compared as if it had been written into a buffer of its size.
 const CHECKSUM_LEN: usize = 2;
+const DHCP_REPLY_LEN: usize = 300;
+/// What `message_type` tells is compared as if it had been written: the number and the value.
+const TOLD_LEN: usize = 9;
 const TURNS_TO_A_LONG_CHECKSUM: usize = 200;
 const LONGEST_OF_THE_RUST: usize = 131_074;
 
@@ -53,6 +67,8 @@ fn head_and_limit(builder: &Builder) -> (usize, usize) {
         Builder::Tcp { flags, .. } if flags & SYN != 0 => (62, 65_487),
         Builder::Tcp { .. } => (54, 65_495),
         Builder::Checksum | Builder::LongChecksum => (0, LONGEST_OF_THE_RUST),
+        Builder::DhcpReply { .. } => (DHCP_REPLY_LEN, 0),
+        Builder::MessageType => (0, 0),
     }
 }
 
@@ -64,12 +80,14 @@ impl Builder {
             Builder::Tcp { .. } => 2,
             Builder::Checksum => 3,
             Builder::LongChecksum => 4,
+            Builder::DhcpReply { .. } => 5,
+            Builder::MessageType => 6,
         }
     }
 
     /// The `turn`th call: the builders and flags go round, the rest is drawn.
     pub fn drawn(draws: &mut Draws, turn: usize) -> Self {
-        match turn % 8 {
+        match turn % 10 {
             0 | 1 => Builder::Ip {
                 ends: (draws.mac(), draws.ip(), draws.ip()),
                 proto: draws.proto(),
@@ -84,19 +102,26 @@ impl Builder {
                 dst: (draws.ip(), draws.port()),
                 seq: draws.word(),
                 ack: draws.word(),
-                flags: (turn / 8 * 3 + turn % 8 - 4) as u8,
+                flags: (turn / 10 * 3 + turn % 10 - 4) as u8,
             },
-            _ if turn / 8 % TURNS_TO_A_LONG_CHECKSUM == 0 => Builder::LongChecksum,
-            _ => Builder::Checksum,
+            7 if turn / 10 % TURNS_TO_A_LONG_CHECKSUM == 0 => Builder::LongChecksum,
+            7 => Builder::Checksum,
+            8 => Builder::DhcpReply { kind: draws.byte() },
+            _ => Builder::MessageType,
         }
     }
 
     /// A payload: mostly short, now and then long, seldom around the limit.
     pub fn payload(&self, draws: &mut Draws) -> Vec<u8> {
         let (_, limit) = head_and_limit(self);
-        if matches!(self, Builder::LongChecksum) {
-            let (len, any) = (limit + 1 + draws.below(170_000), draws.byte());
-            return vec![draws.one_of(&[0xff, 0xff, 0xff, any]); len];
+        match self {
+            Builder::LongChecksum => {
+                let (len, any) = (limit + 1 + draws.below(170_000), draws.byte());
+                return vec![draws.one_of(&[0xff, 0xff, 0xff, any]); len];
+            }
+            Builder::DhcpReply { .. } => return vec![],
+            Builder::MessageType => return message(draws),
+            _ => {}
         }
         let len = match draws.below(400) {
             0 if self.is_checksum() => limit - draws.below(4),
@@ -121,6 +146,9 @@ impl Builder {
     pub fn room(&self, draws: &mut Draws, payload_len: usize) -> usize {
         if self.is_checksum() {
             return CHECKSUM_LEN;
+        }
+        if matches!(self, Builder::MessageType) {
+            return TOLD_LEN;
         }
         let needed = head_and_limit(self).0 + payload_len;
         let (shorter, more) = (draws.below(needed + 1), needed + draws.below(100));
@@ -163,6 +191,13 @@ impl Builder {
             } => SlirpBackend::make_tcp_frame(*dst_mac, *src, *dst, *seq, *ack, *flags, payload),
             Builder::Checksum => SlirpBackend::checksum(payload).to_be_bytes().to_vec(),
             Builder::LongChecksum => document_01::checksum(payload).to_vec(),
+            Builder::DhcpReply { kind } => {
+                SlirpBackend::build_reply(record.xid, &record.mac, *kind)
+            }
+            Builder::MessageType => {
+                let walked = caught(|| SlirpBackend::message_type(payload));
+                return answer_of_walk(record, walked);
+            }
         };
         let mut after = record;
         let is_cut = match self {
@@ -172,7 +207,7 @@ impl Builder {
                 cut(&built)
             }
             Builder::Udp { .. } => number(&built[4..6]) != built.len(),
-            Builder::Checksum | Builder::LongChecksum => false,
+            _ => false,
         };
         let (verdict, reply, after, whose) = if is_cut {
             let verdict = Verdict::TooLong(payload.len());
@@ -218,6 +253,16 @@ impl Builder {
                 };
                 compare_ours::tcp_frame(record, &segment, payload, out)
             }
+            Builder::DhcpReply { kind } => compare_ours::dhcp_reply(record, *kind, out),
+            Builder::MessageType => {
+                let (number, values) = compare_ours::message_type(payload);
+                out[..TOLD_LEN].copy_from_slice(&told_bytes(number as u8, values[0]));
+                Told {
+                    number: 1,
+                    values: [TOLD_LEN as u64, values[1]],
+                    after: record,
+                }
+            }
             Builder::Checksum | Builder::LongChecksum => {
                 let sum = compare_ours::checksum(payload).to_be_bytes();
                 out[..CHECKSUM_LEN].copy_from_slice(&sum);
@@ -229,4 +274,47 @@ impl Builder {
             }
         }
     }
+}
+
+fn told_bytes(number: u8, value: u64) -> [u8; TOLD_LEN] {
+    let mut bytes = [number; TOLD_LEN];
+    bytes[1..].copy_from_slice(&value.to_be_bytes());
+    bytes
+}
+
+/// What `message_type` has to tell: 0 and the type, or where the Rust panics 7 and the place.
+fn answer_of_walk(record: Record, walked: thread::Result<u8>) -> Result<(Answer, Whose), String> {
+    let (number, value, whose) = match walked {
+        Ok(kind) => (0, u64::from(kind), Whose::TheRust),
+        Err(panic) => {
+            let text = *panic.downcast::<String>().map_err(|_| "no text")?;
+            match verdict_of_panic(&text)? {
+                Verdict::CutType(place) => (7, place as u64, Whose::WherePanics),
+                _ => return Err(text),
+            }
+        }
+    };
+    let answer = Answer {
+        verdict: Verdict::Reply(TOLD_LEN),
+        reply: told_bytes(number, value).to_vec(),
+        after: record,
+    };
+    Ok((answer, whose))
+}
+
+/// A message of any length: where it is shorter than 240 bytes it has no options.
+fn message(draws: &mut Draws) -> Vec<u8> {
+    let (any, few) = (draws.below(300), draws.below(20));
+    let mut message = draws.bytes(any);
+    let near = 236 + draws.below(8);
+    match draws.below(4) {
+        0 => message.truncate(near),
+        1 => {}
+        _ => {
+            message.resize(OPTIONS_AT, 53);
+            message.extend(option_bytes(draws, few));
+            message.extend(draws.one_of(&[&[][..], &[], &[53, 1], &[53, 1, 1]]));
+        }
+    }
+    message
 }

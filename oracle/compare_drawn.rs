@@ -6,6 +6,7 @@ use crate::drawn_frames::drawn_frame;
 use crate::draws::{Draws, GATEWAY_IP};
 use crate::gateway_sequences::messages;
 use crate::guest_frames::*;
+use crate::lines::ruled_bytes;
 use crate::readings_captured::captured;
 
 /// A class that never ends. The weight is how many turns of a round it has.
@@ -68,8 +69,8 @@ pub const DRAWN: [Drawn; 10] = [
     },
 ];
 
-/// Pings up to 70,000 bytes take as long as a thousand others, so they come seldom.
-pub const LONG_PINGS: &str = "pings of 65,400 to 70,000 bytes";
+/// Frames up to 70,000 bytes take as long as a hundred others, so they come seldom.
+pub const LONG_FRAMES: &str = "frames of 65,400 to 70,000 bytes, most of them pings";
 
 /// The frames and messages that are damaged.
 pub struct Captured {
@@ -144,6 +145,16 @@ fn well_formed(draws: &mut Draws) -> Vec<u8> {
         3 => syn(),
         4 => udp(draws.port(), draws.ip(), draws.port(), &draws.bytes(len)),
         _ => dhcp(&dhcp_message(draws.word(), &options)),
+    }
+}
+
+/// A frame that gets a reply where there is room.
+pub fn replied_to(draws: &mut Draws) -> Vec<u8> {
+    let (len, options) = (draws.below(40), draws.one_of(&[DISCOVER, REQUEST]));
+    match draws.below(4) {
+        0 => arp(1, GATEWAY_IP),
+        1 => dhcp(&dhcp_message(draws.word(), &options)),
+        _ => ping(&draws.bytes(len)),
     }
 }
 
@@ -327,18 +338,40 @@ fn other_protocol(draws: &mut Draws) -> Vec<u8> {
 }
 
 /// The lengths at the limit come up most: a payload of 65,515 is the longest that is answered.
-pub fn long_ping(draws: &mut Draws) -> Vec<u8> {
+pub fn long_frame(draws: &mut Draws) -> Vec<u8> {
     let any = 65_400 + draws.below(4_601);
     let near = 65_510 + draws.below(12);
     let payload_len = draws.one_of(&[65_515, 65_516, near, near, any]);
-    let seed = draws.rule_seed();
-    let rest = crate::lines::ruled_bytes(seed, payload_len - 4);
-    let frame = packet(ICMP, GATEWAY_IP, &icmp(8, 0, &rest));
-    if draws.below(3) > 0 {
-        return frame;
+    let bytes = ruled_bytes(draws.rule_seed(), payload_len - 8);
+    match draws.below(12) {
+        0 => long_datagram(draws, &bytes),
+        1 => long_options(draws, payload_len - 8 - OPTIONS_AT),
+        2..5 => {
+            // The payload starts at the source address, whose first byte is an echo's.
+            let frame = ping(&bytes[..bytes.len() - (PAYLOAD_AT - SOURCE_AT)]);
+            with(with(frame, BODY_AT, &[0x43]), SOURCE_AT, &[8])
+        }
+        _ => ping(&bytes),
     }
-    // The payload starts at the source address, whose first byte is an echo's.
-    let frame = with(with(frame, BODY_AT, &[0x43]), SOURCE_AT, &[8]);
-    let shorter = frame.len() - (PAYLOAD_AT - SOURCE_AT);
-    of_len(frame, shorter)
+}
+
+/// Data of more bytes than a length field can say; the field says any number, or the most.
+fn long_datagram(draws: &mut Draws, data: &[u8]) -> Vec<u8> {
+    let (target, port, any) = (draws.ip(), draws.port(), draws.below(65_536) as u16);
+    let field = draws.one_of(&[65_535, 65_534, any]);
+    let frame = udp(40_000, target, port, data);
+    with(frame, UDP_LENGTH_AT, &field.to_be_bytes())
+}
+
+/// Options stepped over, of all lengths, up to a type far behind the header or cut off there.
+fn long_options(draws: &mut Draws, len: usize) -> Vec<u8> {
+    let mut options = vec![];
+    while options.len() + 300 < len {
+        let value_len = 255 - draws.one_of(&[0, 0, 0, 1, 100]);
+        options.extend([12, value_len]);
+        options.extend(vec![TYPE; usize::from(value_len)]);
+    }
+    let end: &[u8] = draws.one_of(&[&[TYPE, 1, 1], &[TYPE, 1, 3, END], &[TYPE, 1], &[TYPE]]);
+    options.extend(end);
+    dhcp(&dhcp_message(draws.word(), &options))
 }

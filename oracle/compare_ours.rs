@@ -60,6 +60,17 @@ unsafe extern "C" {
         values: *mut u64,
     ) -> u32;
 
+    fn compared_dhcp_reply(
+        mac: *const u8,
+        xid: u32,
+        kind: u8,
+        out: *mut u8,
+        room: usize,
+        values: *mut u64,
+    ) -> u32;
+
+    fn compared_message_type(data: *const u8, data_len: usize, values: *mut u64) -> u32;
+
     fn compared_checksum(input: *const u8, len: usize) -> u16;
 }
 
@@ -189,6 +200,33 @@ pub fn tcp_frame(record: Record, segment: &Segment, data: &[u8], out: &mut [u8])
         values,
         after,
     }
+}
+
+/// The reply takes its MAC and its xid from the record, and changes neither.
+pub fn dhcp_reply(record: Record, kind: u8, out: &mut [u8]) -> Told {
+    let mut values = UNWRITTEN;
+    let number = unsafe {
+        compared_dhcp_reply(
+            record.mac.as_ptr(),
+            record.xid,
+            kind,
+            out.as_mut_ptr(),
+            out.len(),
+            values.as_mut_ptr(),
+        )
+    };
+    Told {
+        number,
+        values,
+        after: record,
+    }
+}
+
+/// 0 and the message type, or 7 and the place of a type that is cut off.
+pub fn message_type(data: &[u8]) -> (u32, [u64; 2]) {
+    let mut values = UNWRITTEN;
+    let number = unsafe { compared_message_type(data.as_ptr(), data.len(), values.as_mut_ptr()) };
+    (number, values)
 }
 
 pub fn checksum(input: &[u8]) -> u16 {

@@ -3,6 +3,8 @@
 use published::handed::{self, To};
 use published::{NetworkBackend, SlirpBackend};
 use std::panic::{AssertUnwindSafe, catch_unwind};
+use std::sync::atomic::{AtomicBool, Ordering};
+use std::thread;
 
 use crate::ask_gateway::Whose;
 use crate::document_01::{Answer, Record, Verdict};
@@ -146,7 +148,7 @@ impl TheRust {
 
     fn deed(&mut self, frame: &[u8]) -> Result<Deed, String> {
         let backend = &mut self.backend;
-        let sent = catch_unwind(AssertUnwindSafe(|| backend.send(frame)));
+        let sent = caught(|| backend.send(frame));
         let handed = handed::take();
         let received = self.backend.recv();
         if self.backend.recv().is_some() {
@@ -175,6 +177,16 @@ impl TheRust {
     }
 }
 
+/// While the Rust runs, a panic is its own: it is caught and counted, and not told as the driver's.
+pub static IS_ASKED: AtomicBool = AtomicBool::new(false);
+
+pub fn caught<T>(call: impl FnOnce() -> T) -> thread::Result<T> {
+    IS_ASKED.store(true, Ordering::Relaxed);
+    let outcome = catch_unwind(AssertUnwindSafe(call));
+    IS_ASKED.store(false, Ordering::Relaxed);
+    outcome
+}
+
 pub fn number(bytes: &[u8]) -> usize {
     bytes
         .iter()
@@ -189,7 +201,7 @@ pub fn cut(sent: &[u8]) -> bool {
 
 /// Document 01 knows two panics: a payload that starts past the frame is a drop, and a 53 whose value
 /// is not there is 7, its place two bytes before the index.
-fn verdict_of_panic(text: &str) -> Result<Verdict, String> {
+pub fn verdict_of_panic(text: &str) -> Result<Verdict, String> {
     if text.starts_with("range start index ") && text.contains(" out of range for slice of length ")
     {
         return Ok(Verdict::Drop);

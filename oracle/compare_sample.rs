@@ -1,5 +1,5 @@
 //! A sample of the calls compared, as lines that `replay` replays: of each class and verdict the same
-//! number, each call with the same chance among those whose line is short.
+//! number, each call with the same chance among those whose frame is short.
 
 use std::collections::BTreeMap;
 
@@ -9,10 +9,11 @@ use crate::document_01::{Answer, Record};
 use crate::draws::Draws;
 use crate::gateway_cases::line_with_record;
 
-/// The list is stored, so a line is kept only where it has no more characters than this.
-const LONGEST_LINE: usize = 560;
-/// Longer frames are not looked at: their lines are seldom short.
-const LONGEST_FRAME: usize = 400;
+/// The list is stored, so most longer frames are not taken: of those from here on the ones with a
+/// short line, since their bytes are by rule.
+const LONGEST_FRAME: usize = 320;
+const LONG_FRAME: usize = 60_000;
+const LONGEST_LINE: usize = 1_000;
 
 pub struct Sample {
     of_each: usize,
@@ -38,27 +39,38 @@ impl Sample {
         answer: &Answer,
         whose: Whose,
     ) {
-        if self.of_each == 0 || input.bytes.len() > LONGEST_FRAME {
+        let line = || line_with_record(before, &input.bytes, input.room, answer, whose);
+        let is_offered = match input.bytes.len() {
+            _ if self.of_each == 0 => false,
+            0..=LONGEST_FRAME => true,
+            LONG_FRAME.. => line().len() <= LONGEST_LINE,
+            _ => false,
+        };
+        if !is_offered {
             return;
         }
         let (seen, kept) = self.kept.entry(of).or_default();
         // The nth call takes a place with chance of_each / n, so that at the end each has the same.
         let place = self.draws.below(*seen + 1);
-        if kept.len() < self.of_each || place < self.of_each {
-            let line = line_with_record(before, &input.bytes, input.room, answer, whose);
-            if line.len() > LONGEST_LINE {
-                return;
-            }
-            if kept.len() < self.of_each {
-                kept.push(line);
-            } else {
-                kept[place] = line;
-            }
-        }
         *seen += 1;
+        if kept.len() < self.of_each {
+            kept.push(line());
+        } else if place < self.of_each {
+            kept[place] = line();
+        }
     }
 
-    pub fn lines(&self) -> impl Iterator<Item = &String> {
-        self.kept.values().flat_map(|(_, lines)| lines)
+    /// The lines of each class behind its name.
+    pub fn lines(&self, name: impl Fn(usize) -> String) -> Vec<String> {
+        let mut lines = vec![];
+        let mut class = None;
+        for ((row, _), (_, kept)) in &self.kept {
+            if class != Some(row) {
+                lines.push(format!("# {}", name(*row)));
+                class = Some(row);
+            }
+            lines.extend(kept.iter().map(|line| line.trim_end().to_string()));
+        }
+        lines
     }
 }

@@ -8,13 +8,14 @@ use crate::ask_gateway::Whose;
 use crate::cases::MOST_ROOM;
 use crate::compare_builders::{self, Builder};
 use crate::compare_call::{Input, Sides};
-use crate::compare_drawn::{Captured, DRAWN, LONG_PINGS, long_ping};
+use crate::compare_drawn::{Captured, DRAWN, LONG_FRAMES, long_frame, replied_to};
 use crate::compare_every::EVERY;
+use crate::compare_rust::IS_ASKED;
 use crate::compare_sample::Sample;
 use crate::compare_shrink;
 use crate::compare_tally::Row;
 use crate::document_01::{Answer, Verdict};
-use crate::drawn_frames::drawn_room;
+use crate::drawn_frames::{drawn_frame, drawn_room};
 use crate::draws::Draws;
 use crate::gateway_cases::{USUAL_ROOM, numbers};
 
@@ -27,21 +28,25 @@ pub struct Plan {
     pub sample: usize,
 }
 
+const SEQUENCES: &str = "sequences through id 65,535, our record carried on";
 const ROOMS: &str = "a reply's frame once more, the room around its length";
 /// A builder is called behind this many turns.
 const TURNS_TO_A_BUILDER: u64 = 8;
 /// In about this many rounds each exhaustive class has been visited whole.
 const ROUNDS_TO_ALL: usize = 200_000;
-/// Rounds of all classes to one long ping.
-const ROUNDS_TO_A_LONG_PING: u64 = 24;
+/// Rounds of all classes to one long frame, and to one sequence.
+const ROUNDS_TO_A_LONG_FRAME: u64 = 24;
+const ROUNDS_TO_A_SEQUENCE: u64 = 6_000;
+const CALLS_OF_A_SEQUENCE: usize = 120;
 /// No call is lent more.
 const LARGEST_ROOM: usize = 80_000;
 /// Around a payload of 65,515 bytes.
 const LONGEST_REPLY: usize = 65_549;
 
-/// Rows of the table: the exhaustive classes, the drawn ones, and these two.
-const LONG_PING_ROW: usize = EVERY.len() + DRAWN.len();
-const ROOMS_ROW: usize = LONG_PING_ROW + 1;
+/// Rows of the table: the exhaustive classes, the drawn ones, and these three.
+const LONG_FRAMES_ROW: usize = EVERY.len() + DRAWN.len();
+const SEQUENCES_ROW: usize = LONG_FRAMES_ROW + 1;
+const ROOMS_ROW: usize = SEQUENCES_ROW + 1;
 
 /// Where a class that is visited whole stands.
 struct Visit {
@@ -67,11 +72,7 @@ struct Worker {
 /// Runs as the process with this number, and says whether there was no difference.
 pub fn work(plan: &Plan, process: u64) -> bool {
     std::panic::set_hook(Box::new(|told| {
-        // The Rust's panics are caught and counted; one of the driver's own is told.
-        if told
-            .location()
-            .is_some_and(|at| at.file().contains("compare"))
-        {
+        if !IS_ASKED.load(Ordering::Relaxed) {
             println!("broken {told}");
         }
     }));
@@ -94,7 +95,7 @@ pub fn work(plan: &Plan, process: u64) -> bool {
         println!("builder {}", row.told());
     }
     println!("wraps {}", worker.sides.rust.wraps);
-    for line in worker.sample.lines() {
+    for line in worker.sample.lines(|row| worker.rows[row].name.clone()) {
         println!("sample {line}");
     }
     println!("at {} {}", worker.frames, worker.builders);
@@ -117,7 +118,10 @@ impl Worker {
             sides: Sides::new(LARGEST_ROOM, &mut draws),
             captured: Captured::new(),
             visits: visits.collect(),
-            rows: names.chain([LONG_PINGS, ROOMS]).map(Row::new).collect(),
+            rows: names
+                .chain([LONG_FRAMES, SEQUENCES, ROOMS])
+                .map(Row::new)
+                .collect(),
             builder_rows: compare_builders::NAMES.map(Row::new).to_vec(),
             sample: Sample::new(plan.sample, plan.seed),
             mac: draws.mac(),
@@ -156,12 +160,15 @@ impl Worker {
                     }
                 }
             }
-            if round % ROUNDS_TO_A_LONG_PING == 0 {
-                let frame = long_ping(&mut self.draws);
+            if round % ROUNDS_TO_A_LONG_FRAME == 0 {
+                let frame = long_frame(&mut self.draws);
                 // 6 is decided before 5, so a payload that is too long has to meet small rooms too.
                 let rooms = [MOST_ROOM, MOST_ROOM, LONGEST_REPLY, LONGEST_REPLY - 1, 0];
                 let room = self.draws.one_of(&rooms);
-                self.frame(LONG_PING_ROW, frame, room)?;
+                self.frame(LONG_FRAMES_ROW, frame, room)?;
+            }
+            if round % ROUNDS_TO_A_SEQUENCE == 0 {
+                self.sequence()?;
             }
             if round % 64 == 0 {
                 assert!(self.sides.rust.counter_is_followed());
@@ -195,6 +202,31 @@ impl Worker {
                 .one_of(&[n - 1, n - 1, n, n, n + 1, 0, 1, shorter]);
             input.xid = self.xid;
             self.compared(ROOMS_ROW, &input)?;
+        }
+        Ok(())
+    }
+
+    /// One guest's calls. Elsewhere the id is wherever the Rust's counter stands; here the record is the
+    /// one that our last call left, and behind a refusal, which cost the Rust an id, the Rust is brought
+    /// to it.
+    fn sequence(&mut self) -> Result<(), Found> {
+        let mac = self.draws.mac();
+        let (mut id, mut xid) = (65_535 - self.draws.below(40) as u16, 0);
+        for _ in 0..CALLS_OF_A_SEQUENCE {
+            let bytes = match self.draws.below(3) {
+                0 => drawn_frame(&mut self.draws),
+                _ => replied_to(&mut self.draws),
+            };
+            self.sides.rust.bring_id_to(id);
+            let input = Input {
+                mac,
+                xid,
+                room: drawn_room(&mut self.draws),
+                bytes,
+                builder: None,
+            };
+            let answer = self.compared(SEQUENCES_ROW, &input)?;
+            (id, xid) = (answer.after.id, answer.after.xid);
         }
         Ok(())
     }

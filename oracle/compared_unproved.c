@@ -10,6 +10,8 @@ unsigned handle_within(void *, void *, void *, Slice *, Slice *, void *) WITHIN(
 unsigned ip_frame_within(void *, void *, void *, const void *, const void *, const void *, unsigned char, Slice *, Slice *, void *) WITHIN("compared_ip_frame");
 unsigned udp_payload_within(unsigned short, unsigned short, Slice *, Slice *, void *) WITHIN("compared_udp_payload");
 unsigned tcp_frame_within(void *, void *, void *, const void *, const void *, unsigned short, const void *, unsigned short, unsigned, unsigned, unsigned char, Slice *, Slice *, void *) WITHIN("compared_tcp_frame");
+unsigned dhcp_reply_within(const void *, unsigned, unsigned char, Slice *, void *) WITHIN("compared_dhcp_reply");
+unsigned message_type_within(Slice *, void *) WITHIN("compared_message_type");
 unsigned short checksum_within(Slice *) WITHIN("compared_checksum");
 
 unsigned compared_handle(void *mac, void *id, void *xid, const void *frame, unsigned long frame_len, void *reply, unsigned long room, void *values) {
@@ -34,6 +36,16 @@ unsigned compared_tcp_frame(void *mac, void *id, void *xid, const void *dst_mac,
                             void *reply, unsigned long room, void *values) {
     Slice in = {data, len}, out = {reply, room};
     return tcp_frame_within(mac, id, xid, dst_mac, src_ip, src_port, dst_ip, dst_port, seq, ack, flags, &in, &out, values);
+}
+
+unsigned compared_dhcp_reply(const void *mac, unsigned xid, unsigned char kind, void *reply, unsigned long room, void *values) {
+    Slice out = {reply, room};
+    return dhcp_reply_within(mac, xid, kind, &out, values);
+}
+
+unsigned compared_message_type(const void *data, unsigned long len, void *values) {
+    Slice in = {data, len};
+    return message_type_within(&in, values);
 }
 
 unsigned short compared_checksum(const void *input, unsigned long len) {
