@@ -1,5 +1,5 @@
-//! A sample of the calls compared, as lines that `replay` replays: of each class and verdict the same
-//! number, each call with the same chance among those whose frame is short.
+//! A sample of the calls compared, as lines that `replay` replays: of each class, verdict and answerer
+//! the same number, each call with the same chance among those whose frame or line is short.
 
 use std::collections::BTreeMap;
 
@@ -18,7 +18,7 @@ const LONGEST_LINE: usize = 1_000;
 pub struct Sample {
     of_each: usize,
     draws: Draws,
-    kept: BTreeMap<(usize, u8), (usize, Vec<String>)>,
+    kept: BTreeMap<(usize, u8, Whose), (usize, Vec<String>)>,
 }
 
 impl Sample {
@@ -33,7 +33,7 @@ impl Sample {
 
     pub fn offer(
         &mut self,
-        of: (usize, u8),
+        (row, verdict): (usize, u8),
         before: Record,
         input: &Input,
         answer: &Answer,
@@ -49,7 +49,7 @@ impl Sample {
         if !is_offered {
             return;
         }
-        let (seen, kept) = self.kept.entry(of).or_default();
+        let (seen, kept) = self.kept.entry((row, verdict, whose)).or_default();
         // The nth call takes a place with chance of_each / n, so that at the end each has the same.
         let place = self.draws.below(*seen + 1);
         *seen += 1;
@@ -64,7 +64,7 @@ impl Sample {
     pub fn lines(&self, name: impl Fn(usize) -> String) -> Vec<String> {
         let mut lines = vec![];
         let mut class = None;
-        for ((row, _), (_, kept)) in &self.kept {
+        for ((row, ..), (_, kept)) in &self.kept {
             if class != Some(row) {
                 lines.push(format!("# {}", name(*row)));
                 class = Some(row);

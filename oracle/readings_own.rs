@@ -9,6 +9,8 @@ use crate::pieces::laid;
 use crate::reading_cases::{Origin, ReadingList};
 
 const REPLAYED: &str = include_str!("../crates/replay/stdin");
+/// The sample of the comparison stands behind this line. It may be drawn anew, and is left out here.
+const SAMPLE: &str = "\n# A sample of what oracle/compare compared.\n";
 
 /// Longer frames are left out, but for those that end in zeros.
 const LONGEST: usize = 130;
@@ -39,7 +41,8 @@ fn reply(case: &[u8], fields: usize) -> Option<Vec<u8>> {
 }
 
 fn cases() -> Vec<Vec<u8>> {
-    let lines = REPLAYED.lines().map(|line| line.split('#').next().unwrap());
+    let (listed, _) = REPLAYED.split_once(SAMPLE).expect("the sample is listed");
+    let lines = listed.lines().map(|line| line.split('#').next().unwrap());
     lines
         .map(bytes_of)
         .filter(|case| !case.is_empty())
