@@ -1,7 +1,8 @@
-//! The module `dns` of `slirp` is not in the text: where a query lay is noted, and it is left at that.
+//! The module `dns` of `slirp` is not in the text: where a query lay and who sent it is noted, and it
+//! is left at that.
 
 use super::SlirpBackend;
-use crate::handed::{self, To};
+use crate::handed::{self, Asker, To};
 
 pub(super) enum DnsPending {}
 
@@ -9,11 +10,16 @@ impl SlirpBackend {
     pub(super) fn handle_dns(
         &mut self,
         query: &[u8],
-        _guest_mac: [u8; 6],
-        _src_ip: [u8; 4],
-        _src_port: u16,
+        guest_mac: [u8; 6],
+        src_ip: [u8; 4],
+        src_port: u16,
     ) {
         handed::note(To::Dns, query);
+        handed::note_asker(Asker {
+            guest_mac,
+            src_ip,
+            src_port,
+        });
     }
 
     pub(super) fn poll_dns(&mut self) {}
