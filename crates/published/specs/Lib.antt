@@ -4,3 +4,4 @@ pub mod Backend
 pub mod Dhcp
 pub mod Udp
 pub mod Slirp
+pub mod Runs
