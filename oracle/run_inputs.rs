@@ -12,6 +12,9 @@ pub const OTHER_MAC: [u8; 6] = [0xa2, 0xb1, 0xb2, 0xb3, 0xb4, 0xb5];
 const ARP_MAC: [u8; 6] = [0x02, 0x1a, 0x1b, 0x1c, 0x1d, 0x1e];
 pub const OTHER_IP: [u8; 4] = [198, 51, 100, 7];
 
+/// An ICMP message of type 8, without data.
+pub const ECHO: [u8; 8] = [8, 0, 0xc1, 0xc2, 0xc3, 0xc4, 0xc5, 0xc6];
+
 const XID: [u8; 4] = [0x11, 0x22, 0x33, 0x44];
 
 /// The bytes of an input or an answer that have a name in the table.
@@ -20,6 +23,7 @@ pub fn names() -> Vec<Name> {
         what,
         name,
         bytes: bytes.to_vec(),
+        arguments: vec![],
     };
     let reply_start = [&[2, 1, 6, 0][..], &XID, &[0; 8], &GUEST_IP, &GATEWAY_IP].concat();
     let reply_head = [&reply_start[..], &[0; 4], &RECORD_MAC, &[0; 202], &COOKIE].concat();
@@ -54,13 +58,23 @@ pub fn names() -> Vec<Name> {
             "toGuest",
             &[&SENDER_MAC[..], &GATEWAY_MAC, &[0x08, 0x00]].concat(),
         ),
-        name(
-            "the first 12 bytes of an IPv4 header of 20, in which the Rust looks at length and protocol",
-            "icmpHead",
-            &packet_head(0x45, 1),
-        ),
-        name("", "tcpHead", &packet_head(0x45, 6)),
-        name("", "udpHead", &packet_head(0x45, 17)),
+        Name {
+            arguments: vec![(0, "first"), (9, "protocol")],
+            ..name(
+                "12 bytes of an IPv4 header, up to its addresses: the others are not looked at",
+                "ipHead",
+                &packet_head(0x45, 1),
+            )
+        },
+        name("type 8, and what comes back of a ping", "echo", &ECHO),
+        Name {
+            arguments: vec![(6, "high"), (7, "low")],
+            ..name(
+                "8 bytes of an ARP message, with its operation",
+                "arpHead",
+                &[0, 1, 8, 0, 6, 4, 0xff, 0xfe],
+            )
+        },
         name(
             "240 bytes of a DHCP message, up to its options, and of a reply to it",
             "message",
@@ -107,7 +121,7 @@ pub fn packet(first: u8, proto: u8, target: [u8; 4], payload: &[u8]) -> Vec<u8> 
 }
 
 pub fn ping(data: &[u8]) -> Vec<u8> {
-    let message = [&[8, 0, 0xc1, 0xc2, 0xc3, 0xc4, 0xc5, 0xc6][..], data].concat();
+    let message = [&ECHO[..], data].concat();
     packet(0x45, 1, GATEWAY_IP, &message)
 }
 

@@ -10,7 +10,7 @@ mod guest_frames;
 mod run_inputs;
 mod run_rows;
 
-use antt_text::{Name, Writer, written_out};
+use antt_text::Writer;
 use run_inputs::*;
 use run_rows::{Before, Oracle, STARTED, STARTED_TEXT};
 
@@ -68,13 +68,8 @@ impl Table {
 fn main() {
     let names = names();
     let mut text = HEAD.to_string();
-    for Name { what, name, bytes } in &names {
-        let remark = match *what {
-            "" => String::new(),
-            what => format!("-- {what}\n"),
-        };
-        let bytes = written_out(bytes);
-        text += &format!("\n{remark}abbrev pub {name} : List ℕ\n{name} = {bytes}\n");
+    for name in &names {
+        text += &name.definition();
     }
     text += "\n-- the backend with which most rows start\nabbrev pub started : SlirpBackend\n";
     text += &format!("started = {STARTED_TEXT}\n");
@@ -180,7 +175,7 @@ fn ipv4_rows(table: &mut Table) {
     let datagram = packet(0x45, 17, OTHER_IP, &udp(1, 2, 8, &[]));
     table.sends(&datagram[..33], "33 bytes of UDP");
     table.sends(&datagram[..34], "34 bytes of UDP");
-    for proto in [0, 2, 5, 7, 16, 18, 129, 255] {
+    for proto in [0, 2, 5, 7, 16, 18] {
         table.sends(&over(&ping, 23, &[proto]), &format!("protocol {proto}"));
     }
     table.close("ipv4", "`handle_ip`: lengths and protocols");
@@ -216,7 +211,7 @@ fn icmp_rows(table: &mut Table) {
 }
 
 fn icmp_header_rows(table: &mut Table) {
-    let message = [8, 0, 0xc1, 0xc2, 0xc3, 0xc4, 0xc5, 0xc6];
+    let message = ECHO;
     let to_gateway = |first: u8, payload: &[u8]| packet(first, 1, GATEWAY_IP, payload);
     table.sends(&to_gateway(0x40, &message), "header of 0 bytes: type 64");
     table.sends(
@@ -335,7 +330,10 @@ fn udp_header_rows(table: &mut Table) {
         &short,
         "header of 0 bytes: the ports are its own first bytes",
     );
-    table.sends(&over(&with(0x41, &[]), 22, &[0, 8]), "header of 4 bytes");
+    table.sends(
+        &over(&with(0x41, &[]), 22, &[0]),
+        "header of 4 bytes: time to live and protocol are the length field",
+    );
     table.sends(
         &with(0x44, &[0, 9, 0, 0, 0xd1]),
         "header of 16 bytes: the ports are the target",
@@ -531,8 +529,12 @@ fn datagram_rows(table: &mut Table) {
     datagrams(68, 67, &[0xd1], "one byte");
     datagrams(0, 65_535, &[0xd1, 0xd2], "two");
     datagrams(65_535, 0, &[0; 300], "a length of two bytes");
-    datagrams(1, 2, &vec![0; 65_527], "the longest");
-    datagrams(1, 2, &vec![0; 65_528], "one byte more");
+    datagrams(
+        1,
+        2,
+        &vec![0; 65_528],
+        "one byte more than a datagram holds",
+    );
     table.close("udpPayloads", "`make_udp_payload`");
 }
 

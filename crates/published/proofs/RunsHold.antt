@@ -17,7 +17,7 @@ arp-hold = (refl, (refl, (refl, (refl, (refl, (refl, (refl, (refl, (refl, (refl,
 
 pub ipv4-hold : All ipv4
 unfolding index range array store copy sameArray «eth_src» «eth_type» «ip_proto» «ip_src» «ip_dst» «ip_hlen» «ip_payload» u16be sumFrom folded checksum «make_ip_frame» «make_udp_payload» scan «message_type» «build_reply» «send_dhcp_reply» «handle_dhcp» «handle_udp» «handle_arp» «handle_icmp» «handle_ip» send
-ipv4-hold = (refl, (refl, (refl, (refl, (refl, (refl, (refl, (refl, (refl, (refl, (refl, (refl, (refl, (refl, (refl, (refl, (refl, tt)))))))))))))))))
+ipv4-hold = (refl, (refl, (refl, (refl, (refl, (refl, (refl, (refl, (refl, (refl, (refl, (refl, (refl, (refl, (refl, tt)))))))))))))))
 
 pub icmp-hold : All icmp
 unfolding index range array store copy sameArray «eth_src» «eth_type» «ip_proto» «ip_src» «ip_dst» «ip_hlen» «ip_payload» u16be sumFrom folded checksum «make_ip_frame» «make_udp_payload» scan «message_type» «build_reply» «send_dhcp_reply» «handle_dhcp» «handle_udp» «handle_arp» «handle_icmp» «handle_ip» send
@@ -57,7 +57,7 @@ ip-frames-hold = (refl, (refl, (refl, (refl, (refl, (refl, (refl, (refl, (refl, 
 
 pub udp-payloads-hold : All udpPayloads
 unfolding copy «make_udp_payload»
-udp-payloads-hold = (refl, (refl, (refl, (refl, (refl, (refl, tt))))))
+udp-payloads-hold = (refl, (refl, (refl, (refl, (refl, tt)))))
 
 pub tcp-frames-hold : All tcpFrames
 unfolding index store copy sumFrom folded checksum «make_ip_frame» «make_tcp_frame»
