@@ -431,6 +431,10 @@ fn type_rows(table: &mut Table) {
     table.types_of(&[&[0; 239][..], &[53, 1, 1]].concat(), "a type at 239");
     table.types(&[53, 1, 1], "a type at 240");
     table.types(&[255, 53, 1, 1], "END, and a type at 241");
+    table.types(
+        &[255, 0, 53, 1, 1],
+        "END, and a type where END would be an option of length 0",
+    );
     table.types(&[0, 53, 1, 7], "a pad");
     table.types(&[0, 0, 0], "pads alone");
     table.types(&[0, 255, 53, 1, 1], "a pad, then END");

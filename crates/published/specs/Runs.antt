@@ -309,6 +309,7 @@ messageTypes =
     ∷ types (replicate 239 0 ++ (0x35 ∷ []) ++ (0x01 ∷ 0x01 ∷ [])) (gives 0)  -- a type at 239
     ∷ types (replicate 240 0 ++ (0x35 ∷ 0x01 ∷ 0x01 ∷ [])) (gives 1)  -- a type at 240
     ∷ types (replicate 240 0 ++ (0xff ∷ 0x35 ∷ 0x01 ∷ 0x01 ∷ [])) (gives 0)  -- END, and a type at 241
+    ∷ types (replicate 240 0 ++ (0xff ∷ 0x00 ∷ 0x35 ∷ 0x01 ∷ 0x01 ∷ [])) (gives 0)  -- END, and a type where END would be an option of length 0
     ∷ types (replicate 240 0 ++ (0x00 ∷ 0x35 ∷ 0x01 ∷ 0x07 ∷ [])) (gives 7)  -- a pad
     ∷ types (replicate 240 0 ++ (0x00 ∷ 0x00 ∷ 0x00 ∷ [])) (gives 0)  -- pads alone
     ∷ types (replicate 240 0 ++ (0x00 ∷ 0xff ∷ 0x35 ∷ 0x01 ∷ 0x01 ∷ [])) (gives 0)  -- a pad, then END
