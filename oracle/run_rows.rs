@@ -5,8 +5,8 @@ use published::{NetworkBackend, SlirpBackend};
 use std::panic::{self, AssertUnwindSafe};
 
 use crate::antt_text::{Writer, hex, hex32};
-use crate::guest_frames::xid_bringer;
-use crate::run_inputs::RECORD_MAC;
+use crate::guest_frames::{DISCOVER, xid_bringer};
+use crate::run_inputs::{RECORD_MAC, dhcp_frame, dhcp_message};
 
 const ETHERNET: usize = 14;
 /// Where an IPv4 frame's headers end, and a UDP header behind them.
@@ -29,15 +29,35 @@ pub struct Before {
 
 /// Asks the Rust. It follows the id counter, which belongs to the process.
 pub struct Oracle {
+    first: Before,
     next_id: u16,
     writer: Writer,
 }
 
 impl Oracle {
+    /// Asks first how a backend starts, since the counter starts once: what it has for a MAC and for
+    /// an id is read from its first reply.
     pub fn new(writer: Writer) -> Self {
-        let mut oracle = Oracle { next_id: 0, writer };
-        oracle.next_id = oracle.spend_id().wrapping_add(1);
-        oracle
+        let mut backend = SlirpBackend::new(RECORD_MAC);
+        let xid = backend.dhcp_xid();
+        assert!(backend.recv().is_none() && handed::take().is_empty());
+        backend.send(&dhcp_frame(&dhcp_message(&DISCOVER)));
+        let reply = backend.recv().expect("an offer was due");
+        let first = Before {
+            mac: reply[70..76].try_into().unwrap(),
+            xid,
+            counter: u16::from_be_bytes([reply[18], reply[19]]),
+        };
+        Oracle {
+            next_id: first.counter.wrapping_add(1),
+            first,
+            writer,
+        }
+    }
+
+    pub fn starts(&self) -> String {
+        let (mac, state) = (self.bytes(&RECORD_MAC), self.state(&self.first));
+        format!("starts {mac} {state}")
     }
 
     /// The counter, as a frame tells it that is built for this alone.

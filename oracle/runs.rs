@@ -78,6 +78,9 @@ fn main() {
         text,
         rows: vec![],
     };
+    let start = table.oracle.starts();
+    table.row(start, "before any frame");
+    table.close("starting", "`new`");
     ethernet_rows(&mut table);
     arp_rows(&mut table);
     ipv4_rows(&mut table);
@@ -415,7 +418,7 @@ fn dhcp_reply_rows(table: &mut Table) {
     );
     let mut other_fields = dhcp_message(&[53, 1, 1, 255]);
     for (at, byte) in other_fields.iter_mut().enumerate().skip(1).take(39) {
-        *byte = 0xa0 + at as u8;
+        *byte = 0xc0 + at as u8;
     }
     table.sends(
         &dhcp_frame(&other_fields),

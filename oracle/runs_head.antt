@@ -8,9 +8,11 @@ use Rattle.published.specs.Rust.{Run, gives, panics, cuts, Slice, whole}
 use Rattle.published.specs.Frames.{Counted, Endpoints, checksum, «make_ip_frame», «make_udp_payload», «make_tcp_frame»}
 use Rattle.published.specs.Backend.{Call, «handle_dns», «relay_datagram», «handle_tcp», SlirpBackend}
 use Rattle.published.specs.Dhcp.{«message_type», «build_reply»}
-use Rattle.published.specs.Slirp.{send}
+use Rattle.published.specs.Slirp.{new, send}
 
 pub data Row : Type 0 where
+  -- a MAC, and the backend that `new` makes as the process starts
+  starts : («guest_mac» : List ℕ) (after : SlirpBackend) → Row
   -- a backend and a frame, and how `send` ends
   sends : (before : SlirpBackend) (frame : List ℕ) (ends : Run SlirpBackend) → Row
   -- the others are the arguments and how the function ends
@@ -22,6 +24,7 @@ pub data Row : Type 0 where
   replies : (xid : ℕ) («client_mac» : List ℕ) («msg_type» : ℕ) (ends : Run (List ℕ)) → Row
 
 abbrev pub Holds : Row → Type 0
+Holds (starts «guest_mac» after) = new «guest_mac» ≡ after
 Holds (sends before frame ends) = send before (whole frame) ≡ ends
 Holds (sums «data» sum) = checksum (whole «data») ≡ gives sum
 Holds (types dhcp ends) = «message_type» (whole dhcp) ≡ ends

@@ -5,7 +5,10 @@ use Rattle.published.specs.Frames.{«eth_src», «eth_type», «ip_proto
 use Rattle.published.specs.Dhcp.{scan, «message_type», «build_reply», «send_dhcp_reply», «handle_dhcp»}
 use Rattle.published.specs.Udp.{«handle_udp»}
 use Rattle.published.specs.Slirp.{«handle_arp», «handle_icmp», «handle_ip», send}
-use Rattle.published.specs.Runs.{All, ethernet, arp, ipv4, icmp, icmpHeaders, datagramsSent, udpHeaders, dhcp, dhcpReplies, messageTypes, checksums, ipFrames, udpPayloads, tcpFrames, dhcpMessages}
+use Rattle.published.specs.Runs.{All, starting, ethernet, arp, ipv4, icmp, icmpHeaders, datagramsSent, udpHeaders, dhcp, dhcpReplies, messageTypes, checksums, ipFrames, udpPayloads, tcpFrames, dhcpMessages}
+
+pub starting-hold : All starting
+starting-hold = (refl, tt)
 
 pub ethernet-hold : All ethernet
 unfolding index range «eth_type» «ip_proto» u16be «handle_arp» «handle_ip» send
