@@ -573,13 +573,6 @@ fn segment_rows(table: &mut Table) {
         "counter 65,535, which goes on at 0",
     );
     segments(0, (0xffff_ffff, 0), 0x04, &[], "counter 0");
-    segments(
-        7,
-        numbers,
-        0x10,
-        &vec![0; 65_516],
-        "the segment is longer than 65,535",
-    );
     table.close("tcpFrames", "`make_tcp_frame`");
 }
 

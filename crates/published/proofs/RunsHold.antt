@@ -64,7 +64,7 @@ udp-payloads-hold = (refl, (refl, (refl, (refl, (refl, tt)))))
 
 pub tcp-frames-hold : All tcpFrames
 unfolding index store copy sumFrom folded checksum «make_ip_frame» «make_tcp_frame»
-tcp-frames-hold = (refl, (refl, (refl, (refl, (refl, (refl, (refl, (refl, (refl, (refl, (refl, (refl, (refl, tt)))))))))))))
+tcp-frames-hold = (refl, (refl, (refl, (refl, (refl, (refl, (refl, (refl, (refl, (refl, (refl, (refl, tt))))))))))))
 
 pub dhcp-messages-hold : All dhcpMessages
 unfolding store copy «build_reply»
