@@ -68,4 +68,4 @@ tcp-frames-hold = (refl, (refl, (refl, (refl, (refl, (refl, (refl, (refl, (refl,
 
 pub dhcp-messages-hold : All dhcpMessages
 unfolding store copy «build_reply»
-dhcp-messages-hold = (refl, (refl, (refl, (refl, (refl, tt)))))
+dhcp-messages-hold = (refl, (refl, (refl, (refl, (refl, (refl, tt))))))
