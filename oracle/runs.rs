@@ -583,7 +583,12 @@ fn reply_rows(table: &mut Table) {
         (0xa1a2_a3a4, SENDER_MAC, 0, "type 0"),
         (0xffff_ffff, [0xff; 6], 255, "ones"),
         (0, [0; 6], 1, "zeros"),
-        (0x0100_0000, OTHER_MAC, 5, "an xid whose first byte alone is 1"),
+        (
+            0x0100_0000,
+            OTHER_MAC,
+            5,
+            "an xid whose first byte alone is 1",
+        ),
     ] {
         let row = table.oracle.replies(xid, mac, message_type);
         table.row(row, remark);
