@@ -9,6 +9,7 @@ use lib.ListN.{length}
 use Rattle.frames.specs.Answer.{Outcome, Meets, fresh}
 use Rattle.frames.specs.Network.{network}
 use Rattle.frames.specs.declared.answer.Answer.{Answer}
+use Rattle.frames.specs.declared.answer.Guest.{Guest}
 use Rattle.published.specs.Rust.{Run, gives, panics, cuts, unfinished, whole}
 use Rattle.published.specs.Backend.{SlirpBackend}
 use Rattle.published.specs.Slirp.{send, new}
@@ -20,7 +21,10 @@ use Rattle.equal.specs.Where.{HeaderPast, TypeCut, PingOver}
 use Rattle.equal.proofs.Foretold.{AtPanic, Foretells, foretells}
 use Rattle.equal.proofs.OnAll.{header-past-panics, type-cut-panics, ping-over-cuts, cut-decided}
 
--- a new backend has a new record
+-- every record is a backend's, and a new one is a new backend's
+pub every-record : (guest : Guest) → (self : SlirpBackend) × (recordOf self ≡ guest)
+every-record guest = (record { «guest_mac» = guest .mac; «rx_pending» = []; «dhcp_xid» = guest .xid; counter = guest .id; calls = [] }, refl)
+
 pub new-is-fresh : (mac : List ℕ) → recordOf (new mac) ≡ fresh mac
 new-is-fresh mac = refl
 
