@@ -12,7 +12,7 @@ use Rattle.frames.specs.Rfc791.{headerWith, header, ipFrame}
 use Rattle.frames.specs.Rfc894.{ethernet}
 use Rattle.frames.specs.Network.{gatewayMac}
 use Rattle.frames.specs.Rfc768.{datagram}
-use Rattle.published.specs.Rust.{Run, gives, cuts, _▹_, Slice, lenOf, zeros, store, copy, copyFrom, u16ToBe, wrappingAddU16}
+use Rattle.published.specs.Rust.{Run, gives, cuts, _>>=_, Slice, lenOf, zeros, store, copy, copyFrom, u16ToBe, wrappingAddU16}
 use Rattle.published.specs.Frames.{Counted, «HOST_MAC», «ETHERTYPE_IP», «make_ip_frame», «make_udp_payload»}
 use Rattle.sums.specs.Rfc1071.{checksum}
 use Rattle.equal.specs.Types.{Bytes}
@@ -21,13 +21,13 @@ use Rattle.equal.proofs.Sum.{rust-checksum}
 
 -- the end of `make_ip_frame`: the header in its frame
 framed : (mac ip : List ℕ) (payload : Slice) (counter : ℕ) → Run Counted
-framed mac ip payload counter =
-    copy (zeros (14 + 20 + lenOf payload)) 0 6 mac ▹ λ frame.
-    copy frame 6 12 «HOST_MAC» ▹ λ frame.
-    copy frame 12 14 (u16ToBe «ETHERTYPE_IP») ▹ λ frame.
-    copy frame 14 34 ip ▹ λ frame.
-    copyFrom frame 34 (payload .bytes) ▹ λ frame.
-    gives (record { frame = frame; counter = wrappingAddU16 counter 1 })
+framed mac ip payload counter = do
+  frame ← copy (zeros (14 + 20 + lenOf payload)) 0 6 mac
+  frame ← copy frame 6 12 «HOST_MAC»
+  frame ← copy frame 12 14 (u16ToBe «ETHERTYPE_IP»)
+  frame ← copy frame 14 34 ip
+  frame ← copyFrom frame 34 (payload .bytes)
+  gives (record { frame = frame; counter = wrappingAddU16 counter 1 })
 
 frame-given : (mac ip : List ℕ) (payload : Slice) (counter : ℕ) → length mac ≡ 6 → length ip ≡ 20
     → framed mac ip payload counter ≡ gives (record { frame = ethernet mac gatewayMac 0x0800 ++ ip ++ payload .bytes; counter = (counter + 1) % 65536 })

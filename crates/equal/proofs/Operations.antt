@@ -11,7 +11,7 @@ use lib.Seq.{take-at, drop-at}
 use lib.Dec.{ltb, leb}
 use Rattle.fields.specs.Bytes.{be16, be32, bytesAt}
 use Rattle.equal.specs.Types.{Bytes}
-use Rattle.published.specs.Rust.{Run, gives, panics, cuts, unfinished, _▹_, Slice, lenOf, index, range, array, zeros, store, copy, u32ToBe}
+use Rattle.published.specs.Rust.{Run, gives, panics, cuts, unfinished, _>>=_, Slice, lenOf, index, range, array, zeros, store, copy, u32ToBe}
 
 -- how a run ends, as a number: runs that end differently are not equal
 abbrev pub ending : {A : Type 0} → Run A → ℕ
@@ -30,8 +30,8 @@ pub gives-one : {A : Type 0} (a b : A) → gives a ≡ gives b → a ≡ b
 gives-one a b e = ap (given a) e
 
 -- the same run, and then the same with every value that it can give
-pub same-next : {A B : Type 0} (m : Run A) (f g : A → Run B) → ((value : A) → f value ≡ g value) → (m ▹ f) ≡ (m ▹ g)
-same-next m f g h = λ i. m ▹ λ value. h value i
+pub same-next : {A B : Type 0} (m : Run A) (f g : A → Run B) → ((value : A) → f value ≡ g value) → (m >>= f) ≡ (m >>= g)
+same-next m f g h = λ i. m >>= λ value. h value i
 
 module _ (s : Slice) where
   pub index-in : (i : ℕ) → i < lenOf s → index s i ≡ gives (getD (s .bytes) i 0)

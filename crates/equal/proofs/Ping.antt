@@ -11,7 +11,7 @@ use Rattle.fields.specs.Rfc894.{body, sourceMac}
 use Rattle.frames.specs.Network.{network}
 use Rattle.frames.specs.Rfc791.{ipFrame}
 use Rattle.frames.proofs.Lists.{part-bytes, from-on}
-use Rattle.published.specs.Rust.{Run, gives, cuts, _▹_, Slice, whole, lenOf, zeros, range, rangeFrom, array, copy, copyFrom, u16ToBe}
+use Rattle.published.specs.Rust.{Run, gives, cuts, _>>=_, Slice, whole, lenOf, zeros, range, rangeFrom, array, copy, copyFrom, u16ToBe}
 use Rattle.published.specs.Frames.{«GW_IP», «IP_PROTO_ICMP», «eth_src», «ip_src», «make_ip_frame», checksum as rustChecksum}
 use Rattle.published.specs.Backend.{SlirpBackend, pushed}
 use Rattle.rules.specs.Rfc792.{echoWith, echo}
@@ -24,19 +24,19 @@ use Rattle.equal.proofs.Fields.{range-at, eth-src, ip-src}
 
 -- the end of `handle_icmp`, once the message is an echo request
 abbrev pub answered : SlirpBackend → (frame : List ℕ) (payload : Slice) → Run SlirpBackend
-answered self frame payload =
-    «eth_src» (whole frame) ▹ λ source.
-    array 6 source ▹ λ «src_mac».
-    «ip_src» (whole frame) ▹ λ «src_ip».
-    rangeFrom payload 8 ▹ λ «data».
-    let icmp = zeros (8 + lenOf «data») in
-    range payload 4 8 ▹ λ middle.
-    copy icmp 4 8 (middle .bytes) ▹ λ icmp.
-    copyFrom icmp 8 («data» .bytes) ▹ λ icmp.
-    rustChecksum (whole icmp) ▹ λ csum.
-    copy icmp 2 4 (u16ToBe csum) ▹ λ icmp.
-    «make_ip_frame» (self .counter) «src_mac» «GW_IP» «src_ip» «IP_PROTO_ICMP» (whole icmp) ▹ λ made.
-    gives (pushed (made .frame) (made .counter) self)
+answered self frame payload = do
+  source ← «eth_src» (whole frame)
+  «src_mac» ← array 6 source
+  «src_ip» ← «ip_src» (whole frame)
+  «data» ← rangeFrom payload 8
+  let icmp = zeros (8 + lenOf «data»)
+  middle ← range payload 4 8
+  icmp ← copy icmp 4 8 (middle .bytes)
+  icmp ← copyFrom icmp 8 («data» .bytes)
+  csum ← rustChecksum (whole icmp)
+  icmp ← copy icmp 2 4 (u16ToBe csum)
+  made ← «make_ip_frame» (self .counter) «src_mac» «GW_IP» «src_ip» «IP_PROTO_ICMP» (whole icmp)
+  gives (pushed (made .frame) (made .counter) self)
 
 module _ (self : SlirpBackend) (frame : List ℕ) (payload : Slice) (long : 34 ≤ length frame) (eight : 8 ≤ lenOf payload) where
   -- what is copied is all but the first four bytes
@@ -47,8 +47,8 @@ module _ (self : SlirpBackend) (frame : List ℕ) (payload : Slice) (long : 34 �
 
   -- once the message is laid out
   laid : answered self frame payload
-      ≡ (rustChecksum (whole (echoWith 0 (payload .bytes))) ▹ λ csum.
-      «make_ip_frame» (self .counter) (sourceMac frame) «GW_IP» (sourceOf (body frame)) «IP_PROTO_ICMP» (whole (echoWith csum (payload .bytes))) ▹ λ made.
+      ≡ (rustChecksum (whole (echoWith 0 (payload .bytes))) >>= λ csum.
+      «make_ip_frame» (self .counter) (sourceMac frame) «GW_IP» (sourceOf (body frame)) «IP_PROTO_ICMP» (whole (echoWith csum (payload .bytes))) >>= λ made.
       gives (pushed (made .frame) (made .counter) self))
   unfolding echoWith
   laid =

@@ -22,7 +22,7 @@ use Rattle.frames.specs.Network.{network}
 use Rattle.frames.specs.Pick.{pick}
 use Rattle.frames.proofs.Lists.{from-on}
 use Rattle.options.specs.Rfc2132.{Walked, typed, cut, walk}
-use Rattle.published.specs.Rust.{Run, gives, panics, cuts, _▹_, Slice, whole, range, store, copy, sameArray, u32FromBe}
+use Rattle.published.specs.Rust.{Run, gives, panics, cuts, _>>=_, Slice, whole, range, store, copy, sameArray, u32FromBe}
 use Rattle.published.specs.Backend.{«handle_dns», «relay_datagram», «handle_tcp», SlirpBackend, withXid, pushed, calling}
 use Rattle.published.specs.Slirp.{«handle_arp», «handle_icmp», «handle_ip», send}
 use Rattle.published.specs.Udp.{«handle_udp»}
@@ -178,7 +178,7 @@ module _ (self : SlirpBackend) (frame : List ℕ) (as-typed : GuestTyped (record
   -- the end of `handle_dhcp`, by the walk
   type-ran : 34 ≤ length frame → (xid : ℕ) (w : Walked)
       → Ran self frame
-      (ran w ▹ λ type.
+      (ran w >>= λ type.
       cond (eqb type 1) («send_dhcp_reply» (withXid xid self) (whole frame) xid 2)
       (cond (eqb type 3) («send_dhcp_reply» (withXid xid self) (whole frame) xid 5)
       (gives (withXid xid self))))

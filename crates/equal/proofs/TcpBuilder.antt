@@ -12,7 +12,7 @@ use Rattle.fields.specs.Bytes.{be16, be32, bytesAt}
 use Rattle.frames.proofs.Lists.{all-bytes}
 use Rattle.frames.specs.Pick.{pick}
 use Rattle.frames.specs.Rfc768.{pseudoHeader}
-use Rattle.published.specs.Rust.{Run, gives, cuts, _▹_, Slice, whole, lenOf, zeros, asU16, u16ToBe}
+use Rattle.published.specs.Rust.{Run, gives, cuts, _>>=_, Slice, whole, lenOf, zeros, asU16, u16ToBe}
 use Rattle.published.specs.Frames.{Counted, «make_ip_frame», «make_tcp_frame», checksum as rustChecksum}
 use Rattle.tcp.specs.Rfc9293.{synSet, synOptions, options, segmentHeader, covered, summedHeader, segment, tcpFrame}
 use Rattle.tcp.specs.Builders.{dataLimit}
@@ -62,10 +62,10 @@ with-sum ends seq ack flags «data» csum = segmentHeader csum (ends .«src_port
 
 -- the end of `make_tcp_frame`, once the segment is laid out
 abbrev summed : (counter : ℕ) → Endpoints → (seq ack flags : ℕ) → Slice → Run Counted
-summed counter ends seq ack flags «data» =
-    asU16 (20 + length (options flags) + lenOf «data») ▹ λ short.
-    rustChecksum (whole (pseudoHeader (ends .«src_ip») (ends .«dst_ip») 6 short ++ with-sum ends seq ack flags «data» 0)) ▹ λ csum.
-    «make_ip_frame» counter (ends .«dst_mac») (ends .«src_ip») (ends .«dst_ip») 6 (whole (with-sum ends seq ack flags «data» csum))
+summed counter ends seq ack flags «data» = do
+  short ← asU16 (20 + length (options flags) + lenOf «data»)
+  csum ← rustChecksum (whole (pseudoHeader (ends .«src_ip») (ends .«dst_ip») 6 short ++ with-sum ends seq ack flags «data» 0))
+  «make_ip_frame» counter (ends .«dst_mac») (ends .«src_ip») (ends .«dst_ip») 6 (whole (with-sum ends seq ack flags «data» csum))
 
 module _ (counter : ℕ) (ends : Endpoints) (seq ack flags : ℕ) («data» : Slice) (four : length (ends .«src_ip») ≡ 4) (four′ : length (ends .«dst_ip») ≡ 4) where
   tcp-steps : «make_tcp_frame» counter (theEnds ends) seq ack flags «data» ≡ summed counter ends seq ack flags «data»

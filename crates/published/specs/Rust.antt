@@ -17,13 +17,20 @@ pub data Run (A : Type 0) : Type 0 where
   -- a loop wants more turns than its definition has; that none does is proved (crate `equal`)
   unfinished : Run A
 
-infixr 20 _▹_
--- a run, and with the value that it gives the next
-abbrev pub _▹_ : {A B : Type 0} → Run A → (A → Run B) → Run B
-gives value ▹ next = next value
-panics ▹ next = panics
-cuts ▹ next = cuts
-unfinished ▹ next = unfinished
+infixr 20 _>>=_ _>>_
+-- A `do` block is a function's body: `x ← run` takes what the run gives, and ends with it where it gives nothing.
+abbrev pub _>>=_ : {A B : Type 0} → Run A → (A → Run B) → Run B
+gives value >>= next = next value
+panics >>= next = panics
+cuts >>= next = cuts
+unfinished >>= next = unfinished
+
+-- `when test run` is `if test { run }` where that leaves the function or the turn of a loop: else it goes on below
+abbrev pub when : {A : Type 0} → Bool → Run A → (Run A → Run A)
+when test run = λ below. cond test run below
+
+abbrev pub _>>_ : {A : Type 0} → (Run A → Run A) → Run A → Run A
+step >> below = step below
 
 -- `&[u8]`: the place of its first byte in the bytes that it is a part of, and its bytes
 pub record Slice : Type 0 where

@@ -1,9 +1,9 @@
 -- `udp.rs`: guest datagrams. `relay_datagram` is a call of what is outside: a run ends with it, and what it does on its socket (it can push replies and take ids at once) is left out, with
 -- the types of its connections.
 use Prim.Native.Nat.{ℕ, min}
-use mathlib.Core.Bool.{_&&_, cond}
+use mathlib.Core.Bool.{_&&_}
 use lib.Dec.{ltb, eqb}
-use Rattle.published.specs.Rust.{Run, gives, _▹_, Slice, lenOf, range, array, sameArray}
+use Rattle.published.specs.Rust.{Run, gives, _>>=_, _>>_, when, Slice, lenOf, range, array, sameArray}
 use Rattle.published.specs.Frames.{«GW_IP», «eth_src», «ip_dst», «ip_payload», «ip_src», u16be}
 use Rattle.published.specs.Backend.{«handle_dns», «relay_datagram», SlirpBackend, calling}
 use Rattle.published.specs.Dhcp.{«handle_dhcp»}
@@ -18,22 +18,18 @@ abbrev pub «DNS_PORT» : ℕ
 «DNS_PORT» = 53
 
 unfoldable pub «handle_udp» : (self : SlirpBackend) (frame : Slice) → Run SlirpBackend
-«handle_udp» self frame =
-    «ip_payload» frame ▹ λ payload.
-    cond (ltb (lenOf payload) 8)
-    (gives self)
-    (u16be payload 0 ▹ λ «src_port».
-    u16be payload 2 ▹ λ «dst_port».
-    u16be payload 4 ▹ λ «udp_len».
-    cond (ltb «udp_len» 8)
-    (gives self)
-    («ip_dst» frame ▹ λ «dst_ip».
-    «ip_src» frame ▹ λ «src_ip».
-    «eth_src» frame ▹ λ source.
-    array 6 source ▹ λ «guest_mac».
-    range payload 8 (min «udp_len» (lenOf payload)) ▹ λ «data».
-    cond (eqb «dst_port» «DHCP_SERVER_PORT» && eqb «src_port» «DHCP_CLIENT_PORT»)
-    («handle_dhcp» self frame «data»)
-    (cond (sameArray «dst_ip» «GW_IP» && eqb «dst_port» «DNS_PORT»)
-    (gives (calling («handle_dns» «data» «guest_mac» «src_ip» «src_port») self))
-    (gives (calling («relay_datagram» «guest_mac» «src_ip» «src_port» «dst_ip» «dst_port» «data») self)))))
+«handle_udp» self frame = do
+  payload ← «ip_payload» frame
+  when (ltb (lenOf payload) 8) (gives self)
+  «src_port» ← u16be payload 0
+  «dst_port» ← u16be payload 2
+  «udp_len» ← u16be payload 4
+  when (ltb «udp_len» 8) (gives self)
+  «dst_ip» ← «ip_dst» frame
+  «src_ip» ← «ip_src» frame
+  source ← «eth_src» frame
+  «guest_mac» ← array 6 source
+  «data» ← range payload 8 (min «udp_len» (lenOf payload))
+  when (eqb «dst_port» «DHCP_SERVER_PORT» && eqb «src_port» «DHCP_CLIENT_PORT») («handle_dhcp» self frame «data»)
+  when (sameArray «dst_ip» «GW_IP» && eqb «dst_port» «DNS_PORT») (gives (calling («handle_dns» «data» «guest_mac» «src_ip» «src_port») self))
+  gives (calling («relay_datagram» «guest_mac» «src_ip» «src_port» «dst_ip» «dst_port» «data») self)
