@@ -15,7 +15,7 @@ use run_inputs::*;
 use run_rows::{Before, Oracle, STARTED, STARTED_TEXT};
 
 /// What stands before the names and the rows.
-const HEAD: &str = include_str!("runs_head.antt");
+const HEAD: &str = include_str!("runs_head.antt.txt");
 
 struct Table {
     oracle: Oracle,
