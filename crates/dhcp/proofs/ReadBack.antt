@@ -6,6 +6,7 @@ use native.Mathlib.Omega.{arith}
 use lib.ListN.{length, getD, replicate, getD-replicate}
 use Rattle.fields.specs.Bytes.{u8At, u32At, bytesAt}
 use Rattle.fields.specs.Rfc2131.{operation, hardwareType, hardwareLength, hopCount, transactionId, secondsElapsed, flagsField, clientAddress, yourAddress, serverAddress, relayAddress, hardwareAddress, magicCookie}
+use Rattle.frames.specs.Network.{network}
 use Rattle.frames.specs.declared.network.Network.{Network}
 use Rattle.frames.proofs.Lists.{all-bytes}
 use Rattle.dhcp.specs.Rfc2131.{reply}
@@ -15,6 +16,10 @@ pub record FourBytes (net : Network) : Type 0 where
   pub guest : length (net .guest) ≡ 4
   pub gateway : length (net .gateway) ≡ 4
   pub mask : length (net .mask) ≡ 4
+
+-- document 01's network has them
+pub four-bytes : FourBytes network
+four-bytes = record { guest = refl; gateway = refl; mask = refl }
 
 pub record ReplyOf (p : List ℕ) (net : Network) (mac : List ℕ) (xid type : ℕ) : Type 0 where
   pub long : length p ≡ 300

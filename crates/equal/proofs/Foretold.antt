@@ -7,6 +7,7 @@ use native.Mathlib.Omega.{arith}
 use borrow.Author.Tests.{lt-ltb, le-ltb}
 use lib.ListN.{length, take, drop, length-take, length-drop, drop-of-length-le}
 use lib.Seq.{drop-append-seam}
+use Rattle.dhcp.proofs.ReadBack.{four-bytes}
 use Rattle.frames.specs.Answer.{Outcome}
 use Rattle.frames.specs.Network.{network}
 use Rattle.frames.specs.declared.answer.Guest.{Guest}
@@ -24,7 +25,6 @@ use Rattle.slirp.proofs.ReadBack.{arp-reads-back, echo-frame-reads-back, dhcp-r
 use Rattle.equal.specs.Alike.{recordOf, handoff, added, cameOf, Keeps, Handed, AllHanded}
 use Rattle.equal.specs.Types.{Bytes, GuestTyped}
 use Rattle.equal.specs.Where.{HeaderPast}
-use Rattle.equal.proofs.Lease.{four-bytes}
 use Rattle.equal.proofs.Ran.{Ran, send-ran}
 
 -- what a list has got

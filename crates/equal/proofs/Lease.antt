@@ -9,7 +9,7 @@ use lib.Dec.{ltb, leb, eqb}
 use lib.ListN.{length}
 use Rattle.fields.specs.Bytes.{be16, u8At, bytesAt}
 use Rattle.dhcp.specs.Rfc2131.{reply}
-use Rattle.dhcp.proofs.ReadBack.{FourBytes, reply-reads-back}
+use Rattle.dhcp.proofs.ReadBack.{four-bytes, reply-reads-back}
 use Rattle.fields.specs.Rfc894.{sourceMac}
 use Rattle.frames.specs.Network.{network, gatewayMac}
 use Rattle.frames.specs.Rfc768.{datagram}
@@ -24,7 +24,7 @@ use Rattle.published.specs.Rust.{Run, gives, panics, Slice, whole, lenOf, zeros
 use Rattle.published.specs.Frames.{«BCAST_MAC», «BCAST_IP», «GW_IP»}
 use Rattle.published.specs.Backend.{SlirpBackend, withXid, pushed}
 use Rattle.published.specs.Dhcp.{scan, «message_type», «build_reply», «send_dhcp_reply»}
-use Rattle.equal.proofs.Operations.{index-in, index-past, array-of, copy-over, be32-bytes}
+use Rattle.equal.proofs.Operations.{index-in, index-past, array-of, copy-over, be32-same}
 use Rattle.equal.proofs.Builders.{ip-frame-given, udp-payload-given}
 use Rattle.equal.proofs.Fields.{eth-src}
 use Rattle.equal.specs.Alike.{recordOf}
@@ -115,10 +115,7 @@ built mac xid type =
 
 pub build-reply-given : (xid type : ℕ) (mac : List ℕ) → length mac ≡ 6 → «build_reply» xid mac type ≡ gives (reply network mac xid type)
 unfolding «build_reply» store copy reply built
-build-reply-given xid type mac six = rw (all-bytes mac 6 six) (ap (λ (x : List ℕ). gives (built (bytesAt mac 0 6) x type)) (be32-bytes xid))
-
-pub four-bytes : FourBytes network
-four-bytes = record { gateway = refl; guest = refl; mask = refl }
+build-reply-given xid type mac six = rw (all-bytes mac 6 six) (ap (λ (x : List ℕ). gives (built (bytesAt mac 0 6) x type)) (be32-same xid))
 
 -- The frame of a reply: built for the broadcast MAC, then sent to the frame's own source.
 module _ (self : SlirpBackend) (frame : List ℕ) (typed : GuestTyped (recordOf self)) (long : 34 ≤ length frame) (xid type : ℕ) where

@@ -122,8 +122,8 @@ pub be16-bytes : (n : ℕ) → n < 65536 → Bytes (be16 n)
 be16-bytes n h = (omega arith, (omega arith, tt))
 
 -- four bytes of a 32-bit number, in the Rust's words and in ours
-pub be32-bytes : (x : ℕ) → u32ToBe x ≡ be32 x
-be32-bytes x = λ i. first i ∷ second i ∷ third i ∷ fourth i ∷ []
+pub be32-same : (x : ℕ) → u32ToBe x ≡ be32 x
+be32-same x = λ i. first i ∷ second i ∷ third i ∷ fourth i ∷ []
   where
     first : x / 16777216 ≡ x / 65536 / 256
     first = omega arith

@@ -1,11 +1,11 @@
 -- What the Rust's `make_tcp_frame` gives: RFC 9293's segment in its frame, or a length that is cut.
-use Prim.Native.Nat.{ℕ, zero, suc, _+_, _*_, _-_, _/_, _%_, _≤_, _<_}
+use Prim.Native.Nat.{ℕ, _+_, _*_, _-_, _/_, _%_, _≤_, _<_}
 use mathlib.Core.Path.{_≡_, refl, sym, _∙_}
 use mathlib.Core.Bool.{Bool, true, false, not, cond}
 use mathlib.Core.List.{List, [], _∷_, _++_}
 use native.Mathlib.Omega.{arith}
-use borrow.Author.Tests.{lt-ltb}
-use lib.Bits.{bitAnd, and-step, and-mask}
+use borrow.Author.Tests.{lt-ltb, eqb-true, eqb-false}
+use lib.Bits.{bitAnd}
 use lib.Dec.{ltb, eqb}
 use lib.ListN.{length, length-append}
 use Rattle.fields.specs.Bytes.{be16, be32, bytesAt}
@@ -16,45 +16,33 @@ use Rattle.published.specs.Rust.{Run, gives, cuts, _>>=_, Slice, whole, lenOf, 
 use Rattle.published.specs.Frames.{Counted, «make_ip_frame», «make_tcp_frame», checksum as rustChecksum}
 use Rattle.tcp.specs.Rfc9293.{synSet, synOptions, options, segmentHeader, covered, summedHeader, segment, tcpFrame}
 use Rattle.tcp.specs.Builders.{dataLimit}
+use Rattle.tcp.proofs.SumsRight.{length-pseudoHeader}
+use Rattle.tcp.proofs.TcpLaws.{with-syn, without-syn, syn-cases, limit-holds}
 use Rattle.tcp.specs.declared.Endpoints.{Endpoints}
 use Rattle.sums.specs.Rfc1071.{checksum}
 use Rattle.equal.specs.Alike.{theEnds}
 use Rattle.equal.specs.Types.{Bytes, EndsTyped}
-use Rattle.equal.proofs.Operations.{same-next, copy-over, copy-zeros, copy-rest, store-zeros, bytes-append, be16-bytes, be32-bytes}
+use Rattle.equal.proofs.Operations.{same-next, copy-over, copy-zeros, copy-rest, store-zeros, bytes-append, be16-bytes, be32-same}
 use Rattle.equal.proofs.Sum.{rust-checksum, rust-sum}
 use Rattle.equal.proofs.Builders.{ip-frame-cut, ip-frame-given}
 
 mod-small : (x : ℕ) → x < 256 → x % 256 ≡ x
 mod-small x h = omega arith
 
--- the bit of SYN
-syn-bit : (flags : ℕ) → not (eqb (bitAnd flags 0x02) 0) ≡ synSet flags
-syn-bit flags = rw bit (go (flags / 2 % 2) (omega arith))
-  where
-    bit : bitAnd flags 2 ≡ flags / 2 % 2 * 2
-    bit = rw (and-step flags 2, and-mask (flags / 2) 1) (omega arith)
-
-    go : (b : ℕ) → b < 2 → not (eqb (b * 2) 0) ≡ eqb b 1
-    go zero h = refl
-    go (suc zero) h = refl
-    go (suc (suc b)) h = absurd (omega arith)
-
 -- the options
 opts : (flags : ℕ) → cond (not (eqb (bitAnd flags 0x02) 0)) synOptions [] ≡ options flags
 unfolding options
-opts flags = rw (syn-bit flags) (go (synSet flags))
+opts flags = go (eqb (bitAnd flags 2) 0) refl
   where
-    go : (syn : Bool) → cond syn synOptions [] ≡ pick syn synOptions []
-    go true = refl
-    go false = refl
+    go : (none : Bool) → eqb (bitAnd flags 2) 0 ≡ none → cond (not none) synOptions [] ≡ pick (synSet flags) synOptions []
+    go true e = rw (without-syn flags (eqb-true (bitAnd flags 2) 0 e))
+    go false e = rw (with-syn flags (eqb-false (bitAnd flags 2) 0 e))
 
-pub few-options : (flags : ℕ) → length (options flags) ≤ 8
-unfolding options
-few-options flags = go (synSet flags)
-  where
-    go : (syn : Bool) → length (pick syn synOptions []) ≤ 8
-    go true = omega arith
-    go false = omega arith
+few-options : (flags : ℕ) → length (options flags) ≤ 8
+few-options flags = syn-cases (λ o n. length o ≤ 8) flags (omega arith) (omega arith)
+
+options-bytes : (flags : ℕ) → Bytes (options flags)
+options-bytes flags = syn-cases (λ o n. Bytes o) flags (omega arith, (omega arith, (omega arith, (omega arith, (omega arith, (omega arith, (omega arith, (omega arith, tt)))))))) tt
 
 -- the segment with this checksum
 abbrev with-sum : Endpoints → (seq ack flags : ℕ) → Slice → (csum : ℕ) → List ℕ
@@ -81,8 +69,8 @@ module _ (counter : ℕ) (ends : Endpoints) (seq ack flags : ℕ) («data» : Sl
       let addresses = bytesAt (ends .«src_ip») 0 4 ++ bytesAt (ends .«dst_ip») 0 4 in
       rw (
         opts flags,
-        be32-bytes seq,
-        be32-bytes ack,
+        be32-same seq,
+        be32-same ack,
         copy-zeros [] (u16ToBe (ends .«src_port»)) 0 (18 + o + n) (20 + o + n) 0 2 (omega arith) refl refl,
         copy-zeros (u16ToBe (ends .«src_port»)) (u16ToBe (ends .«dst_port»)) 0 (16 + o + n) (18 + o + n) 2 4 (omega arith) refl refl,
         copy-zeros ports (be32 seq) 0 (12 + o + n) (16 + o + n) 4 8 (omega arith) refl refl,
@@ -108,23 +96,6 @@ module _ (counter : ℕ) (ends : Endpoints) (seq ack flags : ℕ) («data» : Sl
       (same-next (rustChecksum (whole (addresses ++ (0 ∷ 6 ∷ []) ++ u16ToBe short ++ (fixed ++ zeros 4 ++ options flags ++ «data» .bytes)))) _ _ λ csum.
       rw (copy-over fixed (zeros 2) (zeros 2 ++ options flags ++ «data» .bytes) (u16ToBe csum) 16 18 refl refl refl)))
 
--- the most data, and the options
-limit-and-options : (flags : ℕ) → dataLimit flags + length (options flags) ≡ 65495
-unfolding dataLimit options
-limit-and-options flags = go (synSet flags)
-  where
-    go : (syn : Bool) → pick syn 65487 65495 + length (pick syn synOptions []) ≡ 65495
-    go true = refl
-    go false = refl
-
-options-bytes : (flags : ℕ) → Bytes (options flags)
-unfolding options
-options-bytes flags = go (synSet flags)
-  where
-    go : (syn : Bool) → Bytes (pick syn synOptions [])
-    go true = (omega arith, (omega arith, (omega arith, (omega arith, (omega arith, (omega arith, (omega arith, (omega arith, tt))))))))
-    go false = tt
-
 module _ (counter : ℕ) (ends : Endpoints) (seq ack flags : ℕ) («data» : Slice) (typed : EndsTyped ends) where
   length-with-sum : (csum : ℕ) → length (with-sum ends seq ack flags «data» csum) ≡ 20 + length (options flags) + lenOf «data»
   unfolding segmentHeader
@@ -133,7 +104,7 @@ module _ (counter : ℕ) (ends : Endpoints) (seq ack flags : ℕ) («data» : Sl
   pub tcp-frame-cut : dataLimit flags < lenOf «data» → «make_tcp_frame» counter (theEnds ends) seq ack flags «data» ≡ cuts
   tcp-frame-cut h =
       tcp-steps counter ends seq ack flags «data» (typed .source .long) (typed .target .long)
-      ∙ go (λ csum. omega (arith, h, limit-and-options flags, length-with-sum csum)) (ltb (20 + length (options flags) + lenOf «data») 65536) refl
+      ∙ go (λ csum. omega (arith, h, limit-holds flags, length-with-sum csum)) (ltb (20 + length (options flags) + lenOf «data») 65536) refl
     where
       go : ((csum : ℕ) → 65515 < length (with-sum ends seq ack flags «data» csum)) → (t : Bool) → ltb (20 + length (options flags) + lenOf «data») 65536 ≡ t
           → summed counter ends seq ack flags «data» ≡ cuts
@@ -162,15 +133,11 @@ module _ (counter : ℕ) (ends : Endpoints) (seq ack flags : ℕ) («data» : Sl
       let head = segmentHeader 0 (ends .«src_port») (ends .«dst_port») seq ack flags in
       bytes-append (head ++ options flags) («data» .bytes) (bytes-append head (options flags) (header-bytes s a f) (options-bytes flags)) b
 
-  length-pseudo : (len : ℕ) → length (pseudoHeader (ends .«src_ip») (ends .«dst_ip») 6 len) ≡ 12
-  unfolding pseudoHeader
-  length-pseudo len = simp length-append (omega (arith, typed .source .long, typed .target .long))
-
   pub tcp-frame-given : counter < 65536 → seq < 4294967296 → ack < 4294967296 → flags < 256 → Bytes («data» .bytes) → lenOf «data» ≤ dataLimit flags
       → «make_tcp_frame» counter (theEnds ends) seq ack flags «data» ≡ gives (record { frame = tcpFrame counter ends seq ack flags («data» .bytes); counter = (counter + 1) % 65536 })
   unfolding tcpFrame segment summedHeader covered
   tcp-frame-given c s a f b h =
-      let within = limit-and-options flags in
+      let within = limit-holds flags in
       let plain = with-sum ends seq ack flags «data» 0 in
       let long = length-with-sum 0 in
       let pseudo = pseudoHeader (ends .«src_ip») (ends .«dst_ip») 6 (length plain) in
@@ -180,7 +147,7 @@ module _ (counter : ℕ) (ends : Endpoints) (seq ack flags : ℕ) («data» : Sl
         lt-ltb (20 + length (options flags) + lenOf «data») 65536 (omega arith),
         ← long,
         rust-checksum (pseudo ++ plain) (bytes-append pseudo plain (pseudo-bytes (length plain) (omega arith)) (segment-bytes s a f b))
-            (omega (arith, length-append pseudo plain, length-pseudo (length plain))),
+            (omega (arith, length-append pseudo plain, length-pseudoHeader (ends .«src_ip») (ends .«dst_ip») (typed .source .long) (typed .target .long) 6 (length plain))),
       )
       (ip-frame-given counter 6 (ends .«dst_mac») (ends .«src_ip») (ends .«dst_ip») (whole (with-sum ends seq ack flags «data» sum))
       (typed .mac .long) (typed .source .long) (typed .target .long) c (omega arith) (typed .source .bytes) (typed .target .bytes) (omega (arith, length-with-sum sum)))

@@ -304,10 +304,6 @@ module _ (net : Network) (guest : Guest) (frame before after : List ℕ) (answer
   unfolding outcome outcomeOf
   six-if-too-long a over = (rw (too-long-decided net frame a over) at m) .wrote .numbers
 
--- the hypotheses hold of document 01's network, and so of `handle`: its arrays have the lengths that their types say
-pub four-bytes : FourBytes network
-four-bytes = record { guest = refl; gateway = refl; mask = refl }
-
 -- the n of 5 is the n of the same call with room
 pub needed-is-n : (net : Network) (guest : Guest) (frame before after before′ after′ : List ℕ) (answer answer′ : Answer) (n : ℕ) → FourBytes net → length (guest .mac) ≡ 6
     → Meets (outcome net guest frame (length before)) before after answer → paper (answer .verdict) ≡ 5 ∷ n ∷ []

@@ -4,7 +4,7 @@ use mathlib.Core.Path.{_≡_}
 use mathlib.Core.Logic.{_↔_}
 use mathlib.Core.List.{List, [], _∷_}
 use lib.ListN.{length, take, drop}
-use Rattle.dhcp.proofs.ReadBack.{FourBytes}
+use Rattle.dhcp.proofs.ReadBack.{FourBytes, four-bytes}
 use Rattle.fields.specs.Bytes.{part}
 use Rattle.frames.specs.Answer.{paper, Wrote, Meets}
 use Rattle.frames.specs.Builders.{makeIpFrame, makeIpFrameInPlace, makeUdpPayload}
@@ -27,7 +27,7 @@ use Rattle.tcp.specs.Rfc9293.{options, segment, tcpFrame}
 use Rattle.tcp.specs.declared.Endpoints.{Endpoints}
 use Rattle.tcp.proofs.InBuffer.{tcp-frame-in-buffer}
 use Rattle.laws.specs.Derivations.{DerivedAs, otherDerivation, udpDerivation, tcpDerivation}
-use Rattle.laws.proofs.Demand1.{on-one, four-bytes}
+use Rattle.laws.proofs.Demand1.{on-one}
 use Rattle.laws.proofs.Derived.{other-derived, udp-derived, tcp-derived}
 use Rattle.laws.proofs.DerivedIp.{Packet, packet-in-buffer}
 use Rattle.laws.proofs.DerivedReplies.{built-derived, some-derivation}

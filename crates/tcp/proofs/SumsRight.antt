@@ -23,7 +23,7 @@ unfolding segmentHeader
 length-segmentHeader c source target seq ack flags = refl
 
 module _ (from to : List ℕ) (four : length from ≡ 4) (four′ : length to ≡ 4) where
-  length-pseudoHeader : (protocol n : ℕ) → length (pseudoHeader from to protocol n) ≡ 12
+  pub length-pseudoHeader : (protocol n : ℕ) → length (pseudoHeader from to protocol n) ≡ 12
   unfolding pseudoHeader
   length-pseudoHeader protocol n = simp length-append (omega arith)
 
