@@ -9,5 +9,6 @@ pub mod Ran
 pub mod OnAll
 pub mod Foretold
 pub mod Demand2
+pub mod Sequence
 pub mod Smallest
 pub mod BuildersEqual

@@ -1,0 +1,35 @@
+-- Calls one after the other, each with the record that the one before left.
+use Prim.Native.Nat.{ℕ, _≤_}
+use mathlib.Core.Path.{_≡_}
+use mathlib.Core.List.{List, [], _∷_}
+use lib.ListN.{length}
+use Rattle.frames.specs.Answer.{Meets}
+use Rattle.frames.specs.Network.{network}
+use Rattle.frames.specs.declared.answer.Answer.{Answer}
+use Rattle.frames.specs.declared.answer.Guest.{Guest}
+use Rattle.published.specs.Rust.{gives, whole}
+use Rattle.published.specs.Backend.{SlirpBackend}
+use Rattle.published.specs.Slirp.{send}
+use Rattle.rules.specs.Rules.{outcome}
+use Rattle.equal.specs.Alike.{cameOf}
+use Rattle.equal.specs.Types.{Bytes}
+
+-- one call: the frame, the buffer before and after, the answer
+pub record Exchange : Type 0 where
+  pub frame : List ℕ
+  pub before : List ℕ
+  pub after : List ℕ
+  pub answer : Answer
+  pub bytes : Bytes frame
+
+-- a guest served as `handle` promises
+abbrev pub Served : Guest → List Exchange → Type 0
+Served guest [] = Unit
+Served guest (x ∷ xs) = Meets (outcome network guest (x .frame) (length (x .before))) (x .before) (x .after) (x .answer) × Served (x .answer .guest) xs
+
+-- the same frames sent to the Rust: as long as it gives a backend and the reply has room, each answer is the Rust's
+abbrev pub AsTheRust : SlirpBackend → List Exchange → Type 0
+AsTheRust self [] = Unit
+AsTheRust self (x ∷ xs) =
+    (b : SlirpBackend) → send self (whole (x .frame)) ≡ gives b → length (cameOf self b .writing .image) ≤ length (x .before)
+    → Meets (cameOf self b) (x .before) (x .after) (x .answer) × AsTheRust b xs
