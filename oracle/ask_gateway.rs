@@ -3,9 +3,10 @@
 use published::handed::{self, To};
 use published::{NetworkBackend, SlirpBackend};
 
-use crate::ask_dhcp::{place_of_cut, text_of_panic};
+use crate::ask_dhcp::place_of_cut;
 use crate::document_01::{self, Answer, Record, Verdict};
 use crate::guest_frames::{BODY_AT, DATA_AT, PAYLOAD_AT, TOTAL_LENGTH_AT, xid_bringer};
+use crate::the_rust::{IdCounter, half_word, is_ipv4, text_of_panic};
 
 /// Whose answer a line holds.
 #[derive(Clone, Copy, Debug, PartialEq, Eq, PartialOrd, Ord)]
@@ -30,31 +31,22 @@ enum Deed {
     Panicked(String),
 }
 
-/// A gateway of the Rust's. It follows the id counter, which belongs to the process.
+/// A gateway of the Rust's.
 pub struct Gateway {
     backend: SlirpBackend,
-    next_id: u16,
+    ids: IdCounter,
 }
 
 impl Gateway {
     pub fn new() -> Self {
-        let mut gateway = Gateway {
+        Gateway {
             backend: SlirpBackend::new([0; 6]),
-            next_id: 0,
-        };
-        gateway.next_id = gateway.spend_id().wrapping_add(1);
-        gateway
+            ids: IdCounter::new(),
+        }
     }
 
     pub fn next_id(&self) -> u16 {
-        self.next_id
-    }
-
-    /// Builds a frame that is not listed, and gives back the id it took.
-    fn spend_id(&mut self) -> u16 {
-        let frame = SlirpBackend::make_ip_frame(&[0; 6], &[0; 4], &[0; 4], 0, &[]);
-        self.next_id = self.next_id.wrapping_add(1);
-        u16::from_be_bytes([frame[18], frame[19]])
+        self.ids.next()
     }
 
     /// A new gateway with this record.
@@ -68,10 +60,7 @@ impl Gateway {
         if self.backend.dhcp_xid() != record.xid {
             self.backend.send(&xid_bringer(record.xid));
         }
-        while self.next_id != record.id {
-            let id = self.next_id;
-            assert_eq!(self.spend_id(), id);
-        }
+        self.ids.bring_to(record.id);
         assert_eq!(self.backend.dhcp_xid(), record.xid);
         assert_eq!(self.backend.recv(), None);
     }
@@ -81,8 +70,7 @@ impl Gateway {
     pub fn ask(&mut self, record: Record, frame: &[u8], room: usize) -> (Answer, Whose) {
         self.start_with(record);
         let answer = self.answer(record, frame, room);
-        let id = self.next_id;
-        assert_eq!(self.spend_id(), id);
+        assert!(self.ids.is_followed());
         answer
     }
 
@@ -112,7 +100,7 @@ impl Gateway {
             _ => Whose::TheRust,
         };
         let after = Record {
-            id: self.next_id,
+            id: self.ids.next(),
             xid: self.backend.dhcp_xid(),
             ..record
         };
@@ -140,9 +128,8 @@ impl Gateway {
         match (sent, &handed[..], received) {
             (Ok(()), [], None) => Deed::Nothing,
             (Ok(()), [], Some(reply)) => {
-                if reply[12..BODY_AT] == [0x08, 0x00] {
-                    assert_eq!(reply[18..20], self.next_id.to_be_bytes());
-                    self.next_id = self.next_id.wrapping_add(1);
+                if is_ipv4(&reply) {
+                    self.ids.follow(&reply).unwrap();
                 }
                 Deed::Sent(reply)
             }
@@ -199,8 +186,9 @@ fn check_panic(text: &str, frame: &[u8], verdict: Verdict) {
 /// What the Rust sent says a total length that is not its own.
 fn check_cut(sent: &[u8], verdict: Verdict) {
     let payload_len = sent.len() - PAYLOAD_AT;
-    let at = TOTAL_LENGTH_AT;
-    let total_length = u16::from_be_bytes([sent[at], sent[at + 1]]) as usize;
-    assert_eq!(total_length, (20 + payload_len) % 65_536);
+    assert_eq!(
+        half_word(sent, TOTAL_LENGTH_AT),
+        (20 + payload_len) % 65_536
+    );
     assert_eq!(verdict, Verdict::TooLong(payload_len));
 }

@@ -5,11 +5,14 @@ mod ask_dhcp;
 #[allow(dead_code)]
 mod ask_gateway;
 #[allow(dead_code)]
+mod captured;
+#[allow(dead_code)]
 mod cases;
 mod compare_builders;
 mod compare_call;
 mod compare_drawn;
 mod compare_every;
+mod compare_grammar;
 mod compare_ours;
 mod compare_rust;
 mod compare_sample;
@@ -34,11 +37,11 @@ mod grammar_01;
 mod guest_frames;
 #[allow(dead_code)]
 mod lines;
+#[allow(dead_code)]
+mod mended;
 mod pieces;
 #[allow(dead_code)]
-mod reading_cases;
-#[allow(dead_code)]
-mod readings_captured;
+mod the_rust;
 
 use std::io::{BufRead, BufReader};
 use std::process::{Child, Command, Stdio, exit};
@@ -50,11 +53,9 @@ use compare_every::EVERY;
 use compare_tally::{Row, grouped, sum};
 use compare_worker::Plan;
 
-const USAGE: &str = "usage: compare [--seed NUMBER] [--frames NUMBER] [--processes NUMBER] [--sample NUMBER]
-  --seed       what the inputs are drawn from; the same seed, frames and processes make the same inputs
-  --frames     how many frames in all (60,000,000)
-  --processes  how many processes, each with its own Rust and its own id counter (1)
-  --sample     print so many lines for replay of each class and verdict; the table goes to standard error";
+const USAGE: &str =
+    "usage: compare [--seed NUMBER] [--frames NUMBER] [--processes NUMBER] [--sample NUMBER]
+  at least 1 frame and 1 to 64 processes; oracle/compare --help says what each word is";
 
 const FRAMES: u64 = 60_000_000;
 /// A run of this many frames or more has to reach every verdict in its table.
@@ -119,6 +120,7 @@ struct Told {
     rows: Vec<Row>,
     builders: Vec<Row>,
     wraps: u64,
+    wraps_in_sequences: u64,
     samples: Vec<String>,
     done: usize,
     differs: bool,
@@ -144,7 +146,11 @@ impl Told {
             }
             "row" => add(&mut self.rows, Row::heard(rest)),
             "builder" => add(&mut self.builders, Row::heard(rest)),
-            "wraps" => self.wraps += rest.parse::<u64>().unwrap(),
+            "wraps" => {
+                let (all, in_sequences) = rest.split_once(' ').unwrap();
+                self.wraps += all.parse::<u64>().unwrap();
+                self.wraps_in_sequences += in_sequences.parse::<u64>().unwrap();
+            }
             "sample" => self.samples.push(rest.to_string()),
             "done" => self.done += 1,
             _ => {
@@ -307,8 +313,9 @@ fn table(plan: &Plan, told: &Told, took: Duration) -> (String, bool) {
         lines.push(compare_tally::line(row));
     }
     lines.push(format!(
-        "\nThe id went from 65,535 to 0 {} times; the Rust panicked {} times and cut a length {} times.",
-        told.wraps,
+        "\nOur record's id went from 65,535 to 0 {} times, {} of them in a sequence; the Rust panicked {} times and cut a length {} times.",
+        grouped(told.wraps),
+        grouped(told.wraps_in_sequences),
         grouped(frames.panics + builders.panics),
         grouped(frames.cuts + builders.cuts)
     ));
@@ -321,7 +328,14 @@ fn table(plan: &Plan, told: &Told, took: Duration) -> (String, bool) {
         grouped(builders.calls())
     ));
     let built = [1, 5, 6].map(|verdict| builders.verdicts[verdict]);
-    let deeds = [told.wraps, frames.panics, frames.cuts, builders.cuts];
+    let deeds = [
+        told.wraps,
+        told.wraps_in_sequences,
+        frames.panics,
+        frames.cuts,
+        builders.panics,
+        builders.cuts,
+    ];
     let rows = told.rows.iter().chain(&told.builders).map(Row::calls);
     let mut counts = frames
         .verdicts

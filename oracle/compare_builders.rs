@@ -1,16 +1,16 @@
 //! Calls of the builders, the option walk and the checksum, compared with the Rust's.
 
 use published::SlirpBackend;
-use std::thread;
 
 use crate::ask_gateway::Whose;
 use crate::cases::SYN;
 use crate::compare_ours::{self, Segment, Told};
-use crate::compare_rust::{TheRust, caught, cut, number, verdict_of_panic};
+use crate::compare_rust::{TheRust, verdict_of_panic};
 use crate::dhcp_vectors::option_bytes;
 use crate::document_01::{self, Answer, Record, Verdict};
 use crate::draws::Draws;
 use crate::guest_frames::OPTIONS_AT;
+use crate::the_rust::{half_word, is_cut, text_of_panic};
 
 pub const NAMES: [&str; 7] = [
     "make_ip_frame",
@@ -111,7 +111,8 @@ impl Builder {
         }
     }
 
-    /// A payload: mostly short, now and then long, seldom around the limit.
+    /// A payload: mostly short, now and then long; seldom of any length up to the limit, around a power of
+    /// two or around the limit.
     pub fn payload(&self, draws: &mut Draws) -> Vec<u8> {
         let (_, limit) = head_and_limit(self);
         match self {
@@ -127,7 +128,9 @@ impl Builder {
             0 if self.is_checksum() => limit - draws.below(4),
             0 => limit - 2 + draws.below(6),
             1 if !self.is_checksum() => limit + draws.below(4_000),
-            2..40 => draws.below(1_600),
+            2 => draws.below(limit + 1),
+            3 => draws.one_of(&[4_096, 8_192, 16_384, 32_768]) - 3 + draws.below(7),
+            4..40 => draws.below(1_600),
             _ => draws.below(80),
         };
         match draws.below(8) {
@@ -195,21 +198,21 @@ impl Builder {
                 SlirpBackend::build_reply(record.xid, &record.mac, *kind)
             }
             Builder::MessageType => {
-                let walked = caught(|| SlirpBackend::message_type(payload));
+                let walked = text_of_panic(|| SlirpBackend::message_type(payload));
                 return answer_of_walk(record, walked);
             }
         };
         let mut after = record;
-        let is_cut = match self {
+        let says_another_length = match self {
             Builder::Ip { .. } | Builder::Tcp { .. } => {
-                rust.follow(&built)?;
-                after.id = rust.next_id();
-                cut(&built)
+                rust.ids.follow(&built)?;
+                after.id = rust.ids.next();
+                is_cut(&built)
             }
-            Builder::Udp { .. } => number(&built[4..6]) != built.len(),
+            Builder::Udp { .. } => half_word(&built, 4) != built.len(),
             _ => false,
         };
-        let (verdict, reply, after, whose) = if is_cut {
+        let (verdict, reply, after, whose) = if says_another_length {
             let verdict = Verdict::TooLong(payload.len());
             (verdict, vec![], record, Whose::WhereCuts)
         } else if room < built.len() {
@@ -283,16 +286,13 @@ fn told_bytes(number: u8, value: u64) -> [u8; TOLD_LEN] {
 }
 
 /// What `message_type` has to tell: 0 and the type, or where the Rust panics 7 and the place.
-fn answer_of_walk(record: Record, walked: thread::Result<u8>) -> Result<(Answer, Whose), String> {
+fn answer_of_walk(record: Record, walked: Result<u8, String>) -> Result<(Answer, Whose), String> {
     let (number, value, whose) = match walked {
         Ok(kind) => (0, u64::from(kind), Whose::TheRust),
-        Err(panic) => {
-            let text = *panic.downcast::<String>().map_err(|_| "no text")?;
-            match verdict_of_panic(&text)? {
-                Verdict::CutType(place) => (7, place as u64, Whose::WherePanics),
-                _ => return Err(text),
-            }
-        }
+        Err(text) => match verdict_of_panic(&text)? {
+            Verdict::CutType(place) => (7, place as u64, Whose::WherePanics),
+            _ => return Err(text),
+        },
     };
     let answer = Answer {
         verdict: Verdict::Reply(TOLD_LEN),

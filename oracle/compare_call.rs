@@ -1,5 +1,7 @@
 //! One comparison: the same call of the Rust and of ours, and whether the answers are the same.
 
+use std::sync::atomic::{AtomicPtr, Ordering};
+
 use crate::ask_gateway::Whose;
 use crate::compare_builders::Builder;
 use crate::compare_ours::{self, Buffer, Lent, Told};
@@ -30,6 +32,9 @@ pub struct Difference {
     pub id: u16,
 }
 
+/// The call that is being made, for where our side crashes in it.
+pub static NOW: AtomicPtr<Input> = AtomicPtr::new(std::ptr::null_mut());
+
 pub struct Sides {
     pub rust: TheRust,
     buffer: Buffer,
@@ -51,13 +56,14 @@ impl Sides {
     pub fn record(&self, input: &Input) -> Record {
         Record {
             mac: input.mac,
-            id: self.rust.next_id(),
+            id: self.rust.ids.next(),
             xid: input.xid,
         }
     }
 
     /// The answer that both give and whose it is, or how they differ.
     pub fn compare(&mut self, input: &Input) -> Result<(Answer, Whose), Difference> {
+        NOW.store((&raw const *input).cast_mut(), Ordering::Relaxed);
         let (record, room) = (self.record(input), input.room);
         self.lent.set(&input.bytes);
         let bytes = self.lent.frame();

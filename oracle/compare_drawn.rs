@@ -1,13 +1,15 @@
 //! Frames that are drawn: by the form that a guest's have, around each boundary, and as damaged copies
 //! of frames that real software sent.
 
+use crate::captured::captured;
+use crate::compare_grammar::{derived, near_miss};
 use crate::dhcp_vectors::{option_bytes, passed_options};
 use crate::drawn_frames::drawn_frame;
 use crate::draws::{Draws, GATEWAY_IP};
 use crate::gateway_sequences::messages;
 use crate::guest_frames::*;
 use crate::lines::ruled_bytes;
-use crate::readings_captured::captured;
+use crate::mended::{payload_at, with_header_options};
 
 /// A class that never ends. The weight is how many turns of a round it has.
 pub struct Drawn {
@@ -16,7 +18,17 @@ pub struct Drawn {
     pub frame: fn(&mut Draws, &Captured) -> Vec<u8>,
 }
 
-pub const DRAWN: [Drawn; 10] = [
+pub const DRAWN: [Drawn; 12] = [
+    Drawn {
+        name: "frames that the grammar derives",
+        weight: 6,
+        frame: |draws, _| derived(draws),
+    },
+    Drawn {
+        name: "such frames, one field changed, the sums right",
+        weight: 4,
+        frame: |draws, _| near_miss(draws),
+    },
     Drawn {
         name: "drawn by a guest's forms",
         weight: 8,
@@ -69,7 +81,8 @@ pub const DRAWN: [Drawn; 10] = [
     },
 ];
 
-/// Frames up to 70,000 bytes take as long as a hundred others, so they come seldom.
+/// Frames of tens of thousands of bytes take as long as a hundred others, so they come seldom.
+pub const ANY_LENGTH: &str = "frames of any length to 70,000 bytes";
 pub const LONG_FRAMES: &str = "frames of 65,400 to 70,000 bytes, most of them pings";
 
 /// The frames and messages that are damaged.
@@ -92,7 +105,10 @@ fn pick<'a>(draws: &mut Draws, of: &'a [Vec<u8>]) -> &'a [u8] {
     &of[draws.below(of.len())]
 }
 
-const BOUNDARIES: [usize; 9] = [0, 14, 34, 42, 60, 94, 282, 284, 300];
+/// The ends of Ethernet's header, IPv4's, and 8 bytes or an ARP message behind; of DHCP's 240 bytes, and
+/// of a code and a length behind them; the same where IPv4's header has 60 bytes; and the least length
+/// that a frame has on a wire.
+const BOUNDARIES: [usize; 11] = [0, 14, 34, 42, 282, 284, 74, 82, 322, 324, 60];
 
 /// A length near a boundary of document 01's, or any up to 400.
 fn near_a_boundary(draws: &mut Draws) -> usize {
@@ -120,8 +136,9 @@ fn random_bytes(draws: &mut Draws) -> Vec<u8> {
             _ => {
                 put(PROTOCOL_AT, &[draws.one_of(&[ICMP, UDP, UDP, TCP])]);
                 put(TARGET_AT, &GATEWAY_IP);
-                let nibble = draws.below(16);
-                put(BODY_AT, &[draws.one_of(&[0x45, 0x40 + nibble as u8])]);
+                let any = draws.below(16);
+                let nibble = draws.one_of(&[5, any, 15]);
+                put(BODY_AT, &[0x40 + nibble as u8]);
                 let start = BODY_AT + 4 * nibble;
                 put(
                     start,
@@ -159,7 +176,10 @@ pub fn replied_to(draws: &mut Draws) -> Vec<u8> {
 }
 
 fn around_a_boundary(draws: &mut Draws) -> Vec<u8> {
-    let frame = well_formed(draws);
+    let mut frame = well_formed(draws);
+    if payload_at(&frame).is_some() && draws.below(4) == 0 {
+        frame = with_header_options(&frame, &draws.bytes(40));
+    }
     let len = near_a_boundary(draws);
     let (whole, near_its_own) = (
         frame.len(),
@@ -337,15 +357,44 @@ fn other_protocol(draws: &mut Draws) -> Vec<u8> {
     with_ip_options(draws, protocol, target, &payload)
 }
 
+const POWERS_OF_TWO: [usize; 6] = [2_048, 4_096, 8_192, 16_384, 32_768, 65_536];
+
+/// A frame of any length up to 70,000 bytes, or one near a power of two: of these its own length, or
+/// that of its payload, so that a length kept in too few bits shows.
+pub fn frame_of_any_length(draws: &mut Draws) -> Vec<u8> {
+    let any = draws.below(70_001);
+    let near = draws.one_of(&POWERS_OF_TWO) + draws.below(7) - 3;
+    let behind = draws.one_of(&[0, BODY_AT, PAYLOAD_AT, DATA_AT]);
+    let len = draws.one_of(&[any, any, near + behind]);
+    if len < DATA_AT + OPTIONS_AT + 300 {
+        return of_len(well_formed(draws), len);
+    }
+    let seed = draws.rule_seed();
+    match draws.below(8) {
+        0 => long_options(draws, len - DATA_AT - OPTIONS_AT),
+        1 => of_len(well_formed(draws), len),
+        2 => long_datagram(draws, &ruled_bytes(seed, len - DATA_AT)),
+        3 => udp(
+            draws.port(),
+            GATEWAY_IP,
+            53,
+            &ruled_bytes(seed, len - DATA_AT),
+        ),
+        4 => packet(TCP, draws.ip(), &ruled_bytes(seed, len - PAYLOAD_AT)),
+        _ => ping(&ruled_bytes(seed, len - DATA_AT)),
+    }
+}
+
 /// The lengths at the limit come up most: a payload of 65,515 is the longest that is answered.
 pub fn long_frame(draws: &mut Draws) -> Vec<u8> {
-    let any = 65_400 + draws.below(4_601);
-    let near = 65_510 + draws.below(12);
-    let payload_len = draws.one_of(&[65_515, 65_516, near, near, any]);
-    let bytes = ruled_bytes(draws.rule_seed(), payload_len - 8);
+    // A frame whose payload starts in its header is 8 bytes shorter.
+    let any = 65_408 + draws.below(4_593);
+    let near = 65_544 + draws.below(12);
+    let len = draws.one_of(&[65_549, 65_550, near, near, any]);
+    let bytes = ruled_bytes(draws.rule_seed(), len - DATA_AT);
     match draws.below(12) {
         0 => long_datagram(draws, &bytes),
-        1 => long_options(draws, payload_len - 8 - OPTIONS_AT),
+        1 => long_options(draws, len - DATA_AT - OPTIONS_AT),
         2..5 => {
             // The payload starts at the source address, whose first byte is an echo's.
             let frame = ping(&bytes[..bytes.len() - (PAYLOAD_AT - SOURCE_AT)]);
@@ -355,15 +404,17 @@ pub fn long_frame(draws: &mut Draws) -> Vec<u8> {
     }
 }
 
-/// Data of more bytes than a length field can say; the field says any number, or the most.
+/// Data of many bytes; the field says any number, or the most, or the right one modulo 65,536.
 fn long_datagram(draws: &mut Draws, data: &[u8]) -> Vec<u8> {
     let (target, port, any) = (draws.ip(), draws.port(), draws.below(65_536) as u16);
-    let field = draws.one_of(&[65_535, 65_534, any]);
+    let right = (8 + data.len()) as u16;
+    let field = draws.one_of(&[65_535, 65_534, right, any]);
     let frame = udp(40_000, target, port, data);
     with(frame, UDP_LENGTH_AT, &field.to_be_bytes())
 }
 
-/// Options stepped over, of all lengths, up to a type far behind the header or cut off there.
+/// Options stepped over, of all lengths, up to a type far behind the header or cut off there; all of
+/// it has `len` bytes.
 fn long_options(draws: &mut Draws, len: usize) -> Vec<u8> {
     let mut options = vec![];
     while options.len() + 300 < len {
@@ -372,6 +423,7 @@ fn long_options(draws: &mut Draws, len: usize) -> Vec<u8> {
         options.extend(vec![TYPE; usize::from(value_len)]);
     }
     let end: &[u8] = draws.one_of(&[&[TYPE, 1, 1], &[TYPE, 1, 3, END], &[TYPE, 1], &[TYPE]]);
+    options.resize(len - end.len(), PAD);
     options.extend(end);
     dhcp(&dhcp_message(draws.word(), &options))
 }

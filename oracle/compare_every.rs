@@ -45,7 +45,7 @@ pub const EVERY: [Every; 11] = [
     },
     Every {
         name: "header lengths by payloads around the end",
-        size: 16 * 3 * 3 * 4 * 27,
+        size: 16 * 3 * 6 * 27,
         frame: header_length,
     },
     Every {
@@ -131,19 +131,21 @@ fn header_length(n: usize) -> Vec<u8> {
     let mut digits = Digits(n);
     let nibble = digits.next(16);
     let version = digits.one_of(&[0x40, 0x00, 0xf0]);
-    let protocol = digits.one_of(&[ICMP, UDP, TCP]);
-    let ports = digits.one_of(&[
-        [0, 68, 0, 67],
-        [0x9c, 0x40, 0, 53],
-        [0, 67, 0, 68],
-        [8, 0, 8, 0],
+    // Of these only UDP's ports are looked at.
+    let (protocol, first) = digits.one_of(&[
+        (ICMP, [8, 0, 0, 0]),
+        (UDP, [0, 68, 0, 67]),
+        (UDP, [0x9c, 0x40, 0, 53]),
+        (UDP, [0, 67, 0, 68]),
+        (UDP, [8, 0, 8, 0]),
+        (TCP, [8, 0, 8, 0]),
     ]);
     let len = (BODY_AT + 4 * nibble + digits.next(27)).saturating_sub(2);
     let start = BODY_AT + 4 * nibble;
     let mut frame = of_len(packet(protocol, GATEWAY_IP, &[]), 110);
     let payload = match protocol {
-        ICMP => vec![8, 0, 0, 0, 0, 7, 0, 9, 1, 2, 3],
-        _ => [&ports[..], &[0, 12, 0, 0, 1, 2, 3, 4]].concat(),
+        ICMP => [&first[..], &[0, 7, 0, 9, 1, 2, 3]].concat(),
+        _ => [&first[..], &[0, 12, 0, 0, 1, 2, 3, 4]].concat(),
     };
     frame[start..start + payload.len()].copy_from_slice(&payload);
     // What the payload wrote over in the header and is looked at before it.

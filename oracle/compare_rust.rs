@@ -2,13 +2,11 @@
 
 use published::handed::{self, To};
 use published::{NetworkBackend, SlirpBackend};
-use std::panic::{AssertUnwindSafe, catch_unwind};
-use std::sync::atomic::{AtomicBool, Ordering};
-use std::thread;
 
 use crate::ask_gateway::Whose;
 use crate::document_01::{Answer, Record, Verdict};
-use crate::guest_frames::{DATA_AT, IPV4, PAYLOAD_AT, TOTAL_LENGTH_AT, TYPE_AT, xid_bringer};
+use crate::guest_frames::{DATA_AT, PAYLOAD_AT, xid_bringer};
+use crate::the_rust::{IdCounter, index_past_the_end, is_cut, is_ipv4, text_of_panic};
 
 enum Deed {
     Nothing,
@@ -18,15 +16,13 @@ enum Deed {
     Panicked(String),
 }
 
-/// A gateway of the Rust's. The id counter belongs to the process, so it is followed.
+/// A gateway of the Rust's.
 pub struct TheRust {
     backend: SlirpBackend,
     mac: [u8; 6],
-    next_id: u16,
+    pub ids: IdCounter,
     calls: usize,
     bringer: Vec<u8>,
-    /// How often the counter went from 65,535 to 0 in an answer compared.
-    pub wraps: u64,
 }
 
 /// The Rust keeps a socket for each datagram's ports and target, so a gateway is not used forever.
@@ -34,51 +30,13 @@ const MOST_CALLS: usize = 500;
 
 impl TheRust {
     pub fn new() -> Self {
-        let mut rust = TheRust {
+        TheRust {
             backend: SlirpBackend::new([0; 6]),
             mac: [0; 6],
-            next_id: 0,
+            ids: IdCounter::new(),
             calls: 0,
             bringer: xid_bringer(0),
-            wraps: 0,
-        };
-        rust.next_id = rust.spent_id().wrapping_add(1);
-        rust
-    }
-
-    pub fn next_id(&self) -> u16 {
-        self.next_id
-    }
-
-    /// The id of a frame that is built for its id alone.
-    fn spent_id(&mut self) -> u16 {
-        let frame = SlirpBackend::make_ip_frame(&[0; 6], &[0; 4], &[0; 4], 0, &[]);
-        self.next_id = self.next_id.wrapping_add(1);
-        number(&frame[18..20]) as u16
-    }
-
-    /// Builds frames until the counter stands there.
-    pub fn bring_id_to(&mut self, id: u16) {
-        while self.next_id != id {
-            self.spent_id();
         }
-    }
-
-    /// Whether the counter stands where it was followed to.
-    pub fn counter_is_followed(&mut self) -> bool {
-        let id = self.next_id;
-        self.spent_id() == id
-    }
-
-    /// A builder of the Rust's was called: it took an id.
-    pub fn follow(&mut self, frame: &[u8]) -> Result<(), String> {
-        let id = number(&frame[18..20]) as u16;
-        if id != self.next_id {
-            return Err(format!("the Rust took id {id}, not {}", self.next_id));
-        }
-        self.wraps += u64::from(id == u16::MAX);
-        self.next_id = id.wrapping_add(1);
-        Ok(())
     }
 
     fn stand_at(&mut self, mac: [u8; 6], xid: u32) {
@@ -115,7 +73,7 @@ impl TheRust {
         };
         let deed = self.deed(frame)?;
         let after = Record {
-            id: self.next_id,
+            id: self.ids.next(),
             xid: self.backend.dhcp_xid(),
             ..record
         };
@@ -124,7 +82,7 @@ impl TheRust {
                 let verdict = verdict_of_panic(&text)?;
                 return unchanged(verdict, Whose::WherePanics);
             }
-            Deed::Sent(sent) if cut(&sent) => {
+            Deed::Sent(sent) if is_cut(&sent) => {
                 let verdict = Verdict::TooLong(sent.len() - PAYLOAD_AT);
                 return unchanged(verdict, Whose::WhereCuts);
             }
@@ -148,8 +106,10 @@ impl TheRust {
 
     fn deed(&mut self, frame: &[u8]) -> Result<Deed, String> {
         let backend = &mut self.backend;
-        let sent = caught(|| backend.send(frame));
+        let sent = text_of_panic(|| backend.send(frame));
         let handed = handed::take();
+        // Our verdict does not say who asked.
+        handed::take_askers();
         let received = self.backend.recv();
         if self.backend.recv().is_some() {
             return Err("the Rust sent two frames".to_string());
@@ -157,8 +117,8 @@ impl TheRust {
         match (sent, &handed[..], received) {
             (Ok(()), [], None) => Ok(Deed::Nothing),
             (Ok(()), [], Some(reply)) => {
-                if number(&reply[TYPE_AT..TYPE_AT + 2]) == IPV4 as usize {
-                    self.follow(&reply)?;
+                if is_ipv4(&reply) {
+                    self.ids.follow(&reply)?;
                 }
                 Ok(Deed::Sent(reply))
             }
@@ -169,34 +129,10 @@ impl TheRust {
                 }
                 Ok(Deed::Handed(*to, start, *len))
             }
-            (Err(text), [], None) => Ok(Deed::Panicked(
-                *text.downcast().map_err(|_| "a panic without a text")?,
-            )),
+            (Err(text), [], None) => Ok(Deed::Panicked(text)),
             _ => Err("the Rust did more than one thing".to_string()),
         }
     }
-}
-
-/// While the Rust runs, a panic is its own: it is caught and counted, and not told as the driver's.
-pub static IS_ASKED: AtomicBool = AtomicBool::new(false);
-
-pub fn caught<T>(call: impl FnOnce() -> T) -> thread::Result<T> {
-    IS_ASKED.store(true, Ordering::Relaxed);
-    let outcome = catch_unwind(AssertUnwindSafe(call));
-    IS_ASKED.store(false, Ordering::Relaxed);
-    outcome
-}
-
-pub fn number(bytes: &[u8]) -> usize {
-    bytes
-        .iter()
-        .fold(0, |number, byte| 256 * number + *byte as usize)
-}
-
-/// The IPv4 frame says a total length that is not its own.
-pub fn cut(sent: &[u8]) -> bool {
-    let total_length = number(&sent[TOTAL_LENGTH_AT..TOTAL_LENGTH_AT + 2]);
-    number(&sent[TYPE_AT..TYPE_AT + 2]) == IPV4 as usize && total_length + 14 != sent.len()
 }
 
 /// Document 01 knows two panics: a payload that starts past the frame is a drop, and a 53 whose value
@@ -206,11 +142,7 @@ pub fn verdict_of_panic(text: &str) -> Result<Verdict, String> {
     {
         return Ok(Verdict::Drop);
     }
-    let index = text
-        .strip_prefix("index out of bounds: the len is ")
-        .and_then(|numbers| numbers.split_once(" but the index is "))
-        .and_then(|(len, index)| Some((len.parse::<usize>().ok()?, index.parse::<usize>().ok()?)));
-    match index {
+    match index_past_the_end(text) {
         Some((len, index)) if index == len => Ok(Verdict::CutType(index - 2)),
         _ => Err(format!("the Rust panics: {text}")),
     }

@@ -12,7 +12,7 @@ use crate::gateway_cases::line_with_record;
 /// The list is stored, so most longer frames are not taken: of those from here on the ones with a
 /// short line, since their bytes are by rule.
 const LONGEST_FRAME: usize = 320;
-const LONG_FRAME: usize = 60_000;
+const LONG_FRAME: usize = 4_000;
 const LONGEST_LINE: usize = 1_000;
 
 pub struct Sample {

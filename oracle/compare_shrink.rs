@@ -28,7 +28,7 @@ impl Shrinking<'_> {
             return false;
         }
         if let Some(id) = self.id {
-            self.sides.rust.bring_id_to(id);
+            self.sides.rust.ids.bring_to(id);
         }
         let Err(difference) = self.sides.compare(&input) else {
             return false;
@@ -130,24 +130,8 @@ pub fn report(sides: &mut Sides, input: Input, difference: Difference) -> String
         "The two sides differ in: {}\nexpected: {}\n    ({})\nours:     {}\n",
         difference.what, difference.expected, difference.whose, difference.ours
     );
-    if let Some(builder) = &best.builder {
-        text += &format!("call: {builder:?}\n");
-    }
-    text += &format!(
-        "record before: mac {}, id {}, xid {:#010x}; room {}; {} bytes, shrunk from {first_len}\n",
-        hex(&best.mac),
-        difference.id,
-        best.xid,
-        best.room,
-        best.bytes.len()
-    );
-    text += &match (&best.builder, &best.bytes[..]) {
-        (Some(_), [one, same @ ..]) if same.iter().all(|byte| byte == one) => {
-            format!("the payload: {} bytes of {one:02x}\n", best.bytes.len())
-        }
-        (Some(_), bytes) => format!("the payload: {}\n", printed(bytes)),
-        (None, bytes) => format!("{} | ./gwone\n", printed(bytes)),
-    };
+    text += &call_text(&best, Some(difference.id));
+    text += &format!("(shrunk from {first_len} bytes)\n");
     if best.builder.is_none() && !shows_with_gwone {
         text += &format!(
             "(gwone has mac {}, id 1, xid 0, a room of {USUAL_ROOM} and reads at most {MOST_READ} bytes: with these it does not show)\n",
@@ -157,12 +141,37 @@ pub fn report(sides: &mut Sides, input: Input, difference: Difference) -> String
     text
 }
 
+/// The call: a builder's with its payload, or the line for the shell that hands the frame to `gwone`.
+pub fn call_text(input: &Input, id: Option<u16>) -> String {
+    let id = id.map_or(String::new(), |id| format!(" id {id},"));
+    let mut text = format!(
+        "record before: mac {},{id} xid {:#010x}; room {}; {} bytes\n",
+        hex(&input.mac),
+        input.xid,
+        input.room,
+        input.bytes.len()
+    );
+    let (builder, bytes) = (&input.builder, &input.bytes[..]);
+    let Some(builder) = builder else {
+        return text + &format!("{} | ./gwone\n", printed(bytes));
+    };
+    text += &format!("call: {builder:?}\n");
+    text + &match bytes {
+        [one, same @ ..] if same.iter().all(|byte| byte == one) => {
+            format!("the payload: {} bytes of {one:02x}\n", bytes.len())
+        }
+        _ => format!("the payload: {}\n", printed(bytes)),
+    }
+}
+
 /// The command that prints these bytes; many zeros at their end are not written out.
 fn printed(bytes: &[u8]) -> String {
     let zeros = bytes.iter().rev().take_while(|byte| **byte == 0).count();
-    if zeros < 64 {
-        return format!("printf '{}' | xxd -r -p", hex(bytes));
+    let zeros = if zeros < 64 { 0 } else { zeros };
+    let written = bytes[..bytes.len() - zeros].iter();
+    let written: String = written.map(|byte| format!("\\x{byte:02x}")).collect();
+    match zeros {
+        0 => format!("printf '{written}'"),
+        _ => format!("{{ printf '{written}'; head -c {zeros} /dev/zero; }}"),
     }
-    let written = hex(&bytes[..bytes.len() - zeros]);
-    format!("{{ printf '{written}' | xxd -r -p; head -c {zeros} /dev/zero; }}")
 }

@@ -2,19 +2,20 @@
 //! on standard output how far it is, what it counted and how the sides differ.
 
 use std::io::Write;
-use std::sync::atomic::{AtomicPtr, AtomicUsize, Ordering};
+use std::sync::atomic::Ordering;
 
 use crate::ask_gateway::Whose;
 use crate::cases::MOST_ROOM;
 use crate::compare_builders::{self, Builder};
-use crate::compare_call::{Input, Sides};
-use crate::compare_drawn::{Captured, DRAWN, LONG_FRAMES, long_frame, replied_to};
+use crate::compare_call::{Input, NOW, Sides};
+use crate::compare_drawn::{
+    ANY_LENGTH, Captured, DRAWN, LONG_FRAMES, frame_of_any_length, long_frame, replied_to,
+};
 use crate::compare_every::EVERY;
-use crate::compare_rust::IS_ASKED;
 use crate::compare_sample::Sample;
 use crate::compare_shrink;
 use crate::compare_tally::Row;
-use crate::document_01::{Answer, Verdict};
+use crate::document_01::{Answer, Record, Verdict};
 use crate::drawn_frames::{drawn_frame, drawn_room};
 use crate::draws::Draws;
 use crate::gateway_cases::{USUAL_ROOM, numbers};
@@ -32,10 +33,10 @@ const SEQUENCES: &str = "sequences through id 65,535, our record carried on";
 const ROOMS: &str = "a reply's frame once more, the room around its length";
 /// A builder is called behind this many turns.
 const TURNS_TO_A_BUILDER: u64 = 8;
-/// In about this many rounds each exhaustive class has been visited whole.
-const ROUNDS_TO_ALL: usize = 200_000;
+/// In about this many rounds each exhaustive class has been visited whole, within ten million frames.
+const ROUNDS_TO_ALL: usize = 75_000;
 /// Rounds of all classes to one long frame, and to one sequence.
-const ROUNDS_TO_A_LONG_FRAME: u64 = 24;
+const ROUNDS_TO_A_LONG_FRAME: u64 = 20;
 const ROUNDS_TO_A_SEQUENCE: u64 = 6_000;
 const CALLS_OF_A_SEQUENCE: usize = 120;
 /// No call is lent more.
@@ -43,8 +44,9 @@ const LARGEST_ROOM: usize = 80_000;
 /// Around a payload of 65,515 bytes.
 const LONGEST_REPLY: usize = 65_549;
 
-/// Rows of the table: the exhaustive classes, the drawn ones, and these three.
-const LONG_FRAMES_ROW: usize = EVERY.len() + DRAWN.len();
+/// Rows of the table: the exhaustive classes, the drawn ones, and these four.
+const ANY_LENGTH_ROW: usize = EVERY.len() + DRAWN.len();
+const LONG_FRAMES_ROW: usize = ANY_LENGTH_ROW + 1;
 const SEQUENCES_ROW: usize = LONG_FRAMES_ROW + 1;
 const ROOMS_ROW: usize = SEQUENCES_ROW + 1;
 
@@ -67,15 +69,14 @@ struct Worker {
     xid: u32,
     frames: u64,
     builders: u64,
+    /// How often our record's id went from 65,535 to 0, and how often of these in a sequence.
+    wraps: u64,
+    wraps_in_sequences: u64,
 }
 
 /// Runs as the process with this number, and says whether there was no difference.
 pub fn work(plan: &Plan, process: u64) -> bool {
-    std::panic::set_hook(Box::new(|told| {
-        if !IS_ASKED.load(Ordering::Relaxed) {
-            println!("broken {told}");
-        }
-    }));
+    std::panic::set_hook(Box::new(|told| println!("broken {told}")));
     watch_for_crashes();
     let mut worker = Worker::new(plan, process);
     let wanted = plan.frames / plan.processes + u64::from(process < plan.frames % plan.processes);
@@ -94,7 +95,7 @@ pub fn work(plan: &Plan, process: u64) -> bool {
     for row in &worker.builder_rows {
         println!("builder {}", row.told());
     }
-    println!("wraps {}", worker.sides.rust.wraps);
+    println!("wraps {} {}", worker.wraps, worker.wraps_in_sequences);
     for line in worker.sample.lines(|row| worker.rows[row].name.clone()) {
         println!("sample {line}");
     }
@@ -119,7 +120,7 @@ impl Worker {
             captured: Captured::new(),
             visits: visits.collect(),
             rows: names
-                .chain([LONG_FRAMES, SEQUENCES, ROOMS])
+                .chain([ANY_LENGTH, LONG_FRAMES, SEQUENCES, ROOMS])
                 .map(Row::new)
                 .collect(),
             builder_rows: compare_builders::NAMES.map(Row::new).to_vec(),
@@ -129,6 +130,8 @@ impl Worker {
             draws,
             frames: 0,
             builders: 0,
+            wraps: 0,
+            wraps_in_sequences: 0,
         }
     }
 
@@ -160,6 +163,13 @@ impl Worker {
                     }
                 }
             }
+            if round % ROUNDS_TO_A_LONG_FRAME == ROUNDS_TO_A_LONG_FRAME / 2 {
+                let frame = frame_of_any_length(&mut self.draws);
+                // What a ping is answered with has its length, if its header is plain.
+                let (len, short) = (frame.len(), frame.len().saturating_sub(1));
+                let room = self.draws.one_of(&[MOST_ROOM, MOST_ROOM, len, short, 0]);
+                self.frame(ANY_LENGTH_ROW, frame, room)?;
+            }
             if round % ROUNDS_TO_A_LONG_FRAME == 0 {
                 let frame = long_frame(&mut self.draws);
                 // 6 is decided before 5, so a payload that is too long has to meet small rooms too.
@@ -171,7 +181,7 @@ impl Worker {
                 self.sequence()?;
             }
             if round % 64 == 0 {
-                assert!(self.sides.rust.counter_is_followed());
+                assert!(self.sides.rust.ids.is_followed());
                 println!("at {} {}", self.frames, self.builders);
                 std::io::stdout().flush().unwrap();
             }
@@ -211,13 +221,13 @@ impl Worker {
     /// to it.
     fn sequence(&mut self) -> Result<(), Found> {
         let mac = self.draws.mac();
-        let (mut id, mut xid) = (65_535 - self.draws.below(40) as u16, 0);
+        let (mut id, mut xid) = (65_535 - self.draws.below(24) as u16, 0);
         for _ in 0..CALLS_OF_A_SEQUENCE {
             let bytes = match self.draws.below(3) {
                 0 => drawn_frame(&mut self.draws),
                 _ => replied_to(&mut self.draws),
             };
-            self.sides.rust.bring_id_to(id);
+            self.sides.rust.ids.bring_to(id);
             let input = Input {
                 mac,
                 xid,
@@ -236,6 +246,9 @@ impl Worker {
         let (answer, whose) = self.both(input)?;
         let (number, ..) = numbers(answer.verdict);
         self.rows[row].count(number, whose);
+        if row == SEQUENCES_ROW {
+            self.wraps_in_sequences += u64::from(wrapped(before, answer.after));
+        }
         self.frames += 1;
         self.xid = answer.after.xid;
         self.sample
@@ -261,11 +274,18 @@ impl Worker {
     }
 
     fn both(&mut self, input: &Input) -> Result<(Answer, Whose), Found> {
-        NOW_AT.store(input.bytes.as_ptr().cast_mut(), Ordering::Relaxed);
-        NOW_LEN.store(input.bytes.len(), Ordering::Relaxed);
+        let before = self.sides.record(input);
         let compared = self.sides.compare(input);
+        if let Ok((answer, _)) = &compared {
+            self.wraps += u64::from(wrapped(before, answer.after));
+        }
         compared.map_err(|difference| (Box::new(input.clone()), difference))
     }
+}
+
+/// Our record's id went from 65,535 to 0. Where a call is refused it stays, whatever the Rust's does.
+fn wrapped(before: Record, after: Record) -> bool {
+    (before.id, after.id) == (u16::MAX, 0)
 }
 
 /// A seed of each process's own, and never 0.
@@ -291,15 +311,13 @@ fn coprime_step(size: usize) -> usize {
 
 // Our side is linked as it is: where a faulty one crashes, the bytes it was handed are told.
 
-static NOW_AT: AtomicPtr<u8> = AtomicPtr::new(std::ptr::null_mut());
-static NOW_LEN: AtomicUsize = AtomicUsize::new(0);
-
 unsafe extern "C" {
     fn signal(number: i32, handler: extern "C" fn(i32)) -> usize;
     fn _exit(status: i32) -> !;
 }
 
-const CRASHES: [i32; 5] = [4, 5, 7, 8, 11];
+/// SIGILL, SIGTRAP, SIGABRT, SIGBUS, SIGFPE and SIGSEGV.
+const CRASHES: [i32; 6] = [4, 5, 6, 7, 8, 11];
 
 fn watch_for_crashes() {
     for number in CRASHES {
@@ -308,14 +326,10 @@ fn watch_for_crashes() {
 }
 
 extern "C" fn on_crash(number: i32) {
-    let (at, len) = (
-        NOW_AT.load(Ordering::Relaxed),
-        NOW_LEN.load(Ordering::Relaxed),
-    );
-    let bytes = unsafe { std::slice::from_raw_parts(at, len) };
+    let input = unsafe { &*NOW.load(Ordering::Relaxed) };
     println!("differs 0 0");
-    println!("Our side ended by signal {number} on these {len} bytes, which are not shrunk:");
-    println!("printf {} | xxd -r -p | ./gwone", crate::lines::hex(bytes));
+    println!("Our side ended by signal {number} on this call, which is not made smaller:");
+    print!("{}", compare_shrink::call_text(input, None));
     std::io::stdout().flush().unwrap();
     unsafe { _exit(1) };
 }

@@ -1,6 +1,7 @@
 //! Sequences of gateway calls, the record carried over from call to call; and the frames and messages
 //! from outside that go into them.
 
+use crate::captured::kernels;
 use crate::cases::MOST_ROOM;
 use crate::dhcp_vectors::{CLIENT_MESSAGES, TYPE, bytes_of};
 use crate::document_01::Record;
@@ -9,9 +10,6 @@ use crate::draws::GATEWAY_IP;
 use crate::gateway_cases::{FRESH, GatewayList, USUAL_ROOM};
 use crate::guest_frames::*;
 use crate::lines::ruled_bytes;
-
-/// Frames that an operating system sent; the lines of kind 08 are whole.
-const CAPTURED: &str = include_str!("captured.txt");
 
 pub const SEQUENCES: [(&str, fn(&mut GatewayList)); 4] = [
     (
@@ -28,11 +26,6 @@ pub const SEQUENCES: [(&str, fn(&mut GatewayList)); 4] = [
         drawn_sequence,
     ),
 ];
-
-pub fn captured() -> Vec<Vec<u8>> {
-    let whole = CAPTURED.lines().filter_map(|line| line.strip_prefix("08 "));
-    whole.map(bytes_of).collect()
-}
 
 pub fn messages() -> Vec<Vec<u8>> {
     let lines = CLIENT_MESSAGES.iter().flat_map(|file| file.lines());
@@ -51,8 +44,8 @@ fn guest_starts(list: &mut GatewayList) {
     for frame in [request, arp(1, GATEWAY_IP), dns_query(), syn(), ping(&[])] {
         list.next_call(&frame, USUAL_ROOM);
     }
-    let short = |frame: &Vec<u8>| frame.len() < 120;
-    for frame in captured().into_iter().filter(short) {
+    let frames = kernels().into_iter().map(|captured| captured.frame);
+    for frame in frames.filter(|frame| frame.len() < 120) {
         list.next_call(&frame, USUAL_ROOM);
         list.next_call(&ping(&frame[34..38]), USUAL_ROOM);
     }

@@ -1,5 +1,6 @@
 //! Which calls of the gateway are listed.
 
+use crate::captured::{Captured, kernels};
 use crate::cases::MOST_ROOM;
 use crate::dhcp_vectors::{END, PAD, TYPE};
 use crate::document_01::{Record, Verdict};
@@ -7,7 +8,7 @@ use crate::drawn_frames::{drawn_frame, drawn_room};
 use crate::draws::{Draws, GATEWAY_IP, GATEWAY_MAC, GATEWAY_SEED, GUEST_IP, GUEST_MAC};
 use crate::gateway_cases::{FRESH, GatewayList, USUAL_ROOM};
 use crate::gateway_dhcp::*;
-use crate::gateway_sequences::{self, captured, messages};
+use crate::gateway_sequences::{self, messages};
 use crate::guest_frames::*;
 use crate::lines::ruled_bytes;
 
@@ -733,7 +734,7 @@ fn drawn_frames(list: &mut GatewayList) {
 }
 
 fn captured_frames(list: &mut GatewayList) {
-    for frame in captured() {
+    for Captured { frame, .. } in kernels() {
         list.frame(&frame);
     }
 }

@@ -3,6 +3,8 @@
 mod ask_dhcp;
 mod ask_gateway;
 mod builder_vectors;
+#[allow(dead_code)]
+mod captured;
 mod cases;
 mod dhcp_cases;
 mod dhcp_vectors;
@@ -16,6 +18,8 @@ mod gateway_vectors;
 mod guest_frames;
 mod lines;
 mod pieces;
+#[allow(dead_code)]
+mod the_rust;
 
 fn main() {
     print!("{}", builder_vectors::list());

@@ -1,6 +1,7 @@
 //! The vectors of the strict reader: frames and what document 01's grammar says of them. Neither a
 //! reader nor the published Rust is asked; `grammar_01.rs` is the judge.
 
+mod captured;
 #[allow(dead_code)]
 mod document_01;
 #[allow(dead_code)]

@@ -1,11 +1,11 @@
 //! Captured frames, damaged in one field at a time; once with the sums made right again, where it is
 //! not a sum that was damaged, and once without.
 
+use crate::captured::{captured, sent};
 use crate::grammar_01::{self, Kind, Layer, Reading};
 use crate::guest_frames::*;
 use crate::mended::{mended, shorter, with_header_options, with_lengths};
 use crate::reading_cases::{Origin, ReadingList};
-use crate::readings_captured::{captured, sent};
 
 /// What the document says of a frame whose field has another value, its sums right.
 #[derive(Clone, Copy, PartialEq)]

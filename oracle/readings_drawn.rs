@@ -1,10 +1,10 @@
 //! Drawn frames: good ones, good ones with one byte or bit changed, and short ones of any bytes.
 
+use crate::captured::captured;
 use crate::draws::{Draws, GATEWAY_IP};
 use crate::guest_frames::*;
 use crate::mended::{mended, payload_at, summed_anew, with_header_options, with_lengths};
 use crate::reading_cases::{Origin, ReadingList};
-use crate::readings_captured::captured;
 
 /// Longer captured frames are left to the other lists.
 const LONGEST: usize = 110;

@@ -1,5 +1,6 @@
 //! Lengths at each limit and one past it, cuts, and bytes behind a frame's end.
 
+use crate::captured::sent;
 use crate::draws::{GATEWAY_IP, GUEST_IP, GUEST_MAC};
 use crate::grammar_01::Kind;
 use crate::guest_frames::*;
@@ -7,7 +8,6 @@ use crate::lines::ruled_bytes;
 use crate::mended::{dhcp_frame, longer, mended, shorter, summed_anew};
 use crate::mended::{with_header_options, with_lengths};
 use crate::reading_cases::{Origin, ReadingList};
-use crate::readings_captured::sent;
 
 /// The longest IPv4 packet.
 const LONGEST: usize = 65_535;

@@ -1,10 +1,10 @@
 //! Option lists of every shape, in DHCP messages that are right otherwise.
 
+use crate::captured::sent;
 use crate::grammar_01::Kind;
 use crate::guest_frames::*;
 use crate::mended::{dhcp_frame, shorter, summed_anew};
 use crate::reading_cases::{Origin, ReadingList};
-use crate::readings_captured::sent;
 
 const SMALL_ALPHABET: [u8; 5] = [PAD, 1, 2, TYPE, END];
 const LIST: &str = "DHCP: a list";

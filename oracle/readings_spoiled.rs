@@ -1,10 +1,10 @@
 //! Lines that are wrong on purpose: a reader that agrees with one of them, or a program that does not
 //! compare every field, is found out.
 
+use crate::captured::sent;
 use crate::grammar_01::{self, KINDS, Kind, Reading};
 use crate::guest_frames::with;
 use crate::reading_cases::{Origin, ReadingList};
-use crate::readings_captured::sent;
 
 /// Two captured frames of each kind.
 fn good_frames(kind: Kind) -> [Vec<u8>; 2] {

@@ -1,13 +1,13 @@
 //! Checksums stored as 0 and as 0xffff. Where the other words add up to a multiple of 65,535 that is
 //! not 0, both are right; else neither is.
 
+use crate::captured::sent;
 use crate::draws::GATEWAY_IP;
 use crate::grammar_01::Kind;
 use crate::guest_frames::*;
 use crate::mended::{dhcp_frame, mended, with_header_options, with_lengths};
 use crate::mended::{message_sum_at, payload_at, to_be_summed, with_header_sum, with_message_sum};
 use crate::reading_cases::{Origin, ReadingList};
-use crate::readings_captured::sent;
 
 const HEADER_SUM_AT: usize = BODY_AT + 10;
 const ID_AT: usize = BODY_AT + 4;

@@ -2,11 +2,11 @@
 
 use published::handed::{self, To};
 use published::{NetworkBackend, SlirpBackend};
-use std::panic::{self, AssertUnwindSafe};
 
 use crate::antt_text::{Writer, hex, hex32};
 use crate::guest_frames::{DISCOVER, xid_bringer};
 use crate::run_inputs::{RECORD_MAC, dhcp_frame, dhcp_message};
+use crate::the_rust::{IdCounter, half_word, is_cut, is_ipv4, text_of_panic};
 
 const ETHERNET: usize = 14;
 /// Where an IPv4 frame's headers end, and a UDP header behind them.
@@ -27,10 +27,10 @@ pub struct Before {
     pub counter: u16,
 }
 
-/// Asks the Rust. It follows the id counter, which belongs to the process.
+/// Asks the Rust.
 pub struct Oracle {
     first: Before,
-    next_id: u16,
+    ids: IdCounter,
     writer: Writer,
 }
 
@@ -49,7 +49,7 @@ impl Oracle {
             counter: u16::from_be_bytes([reply[18], reply[19]]),
         };
         Oracle {
-            next_id: first.counter.wrapping_add(1),
+            ids: IdCounter::behind(first.counter),
             first,
             writer,
         }
@@ -60,27 +60,6 @@ impl Oracle {
         format!("starts {mac} {state}")
     }
 
-    /// The counter, as a frame tells it that is built for this alone.
-    fn spend_id(&mut self) -> u16 {
-        let frame = SlirpBackend::make_ip_frame(&[0; 6], &[0; 4], &[0; 4], 0, &[]);
-        self.next_id = self.next_id.wrapping_add(1);
-        u16::from_be_bytes([frame[18], frame[19]])
-    }
-
-    fn bring_counter(&mut self, counter: u16) {
-        while self.next_id != counter {
-            let id = self.next_id;
-            assert_eq!(self.spend_id(), id);
-        }
-    }
-
-    /// The counter that the Rust left.
-    fn counter_left(&mut self) -> u16 {
-        let counter = self.spend_id();
-        self.next_id = counter.wrapping_add(1);
-        counter
-    }
-
     pub fn sends(&mut self, before: &Before, frame: &[u8]) -> String {
         let mut backend = SlirpBackend::new(before.mac);
         if before.xid != 0 {
@@ -88,21 +67,19 @@ impl Oracle {
         }
         assert_eq!(backend.dhcp_xid(), before.xid);
         assert_eq!(backend.recv(), None);
-        self.bring_counter(before.counter);
+        self.ids.bring_to(before.counter);
         assert!(handed::take().is_empty() && handed::take_askers().is_empty());
 
-        let sent = quietly(|| backend.send(frame));
+        let sent = text_of_panic(|| backend.send(frame));
         let calls = self.calls(&backend, frame);
         let pending: Vec<_> = std::iter::from_fn(|| backend.recv()).collect();
-        let counter = self.counter_left();
+        let counter = self.ids.spent();
         let ends = match sent {
-            Err(()) => {
+            Err(_) => {
                 assert!(calls.is_empty() && pending.is_empty());
                 "panics".to_string()
             }
-            Ok(()) if pending.iter().any(|frame| is_ipv4(frame) && is_cut(frame)) => {
-                "cuts".to_string()
-            }
+            Ok(()) if pending.iter().any(|frame| is_cut(frame)) => "cuts".to_string(),
             Ok(()) => {
                 let state = self.state(&Before {
                     mac: before.mac,
@@ -181,9 +158,9 @@ impl Oracle {
     }
 
     pub fn types(&self, message: &[u8]) -> String {
-        let ends = match quietly(|| SlirpBackend::message_type(message)) {
+        let ends = match text_of_panic(|| SlirpBackend::message_type(message)) {
             Ok(found) => format!("(gives {found})"),
-            Err(()) => "panics".to_string(),
+            Err(_) => "panics".to_string(),
         };
         format!("types {} {ends}", self.writer.argument(message, &[240]))
     }
@@ -196,7 +173,7 @@ impl Oracle {
         payload: &[u8],
     ) -> String {
         let (mac, src, dst) = macs_and_addresses;
-        self.bring_counter(counter);
+        self.ids.bring_to(counter);
         let built = SlirpBackend::make_ip_frame(&mac, &src, &dst, proto, payload);
         let ends = self.counted(&built);
         format!(
@@ -210,7 +187,7 @@ impl Oracle {
 
     /// A frame built, and the counter behind it.
     fn counted(&mut self, built: &[u8]) -> String {
-        let counter = self.counter_left();
+        let counter = self.ids.spent();
         match is_cut(built) {
             true => "cuts".to_string(),
             false => format!("(gives (counted {} {counter}))", self.frame(built)),
@@ -219,7 +196,7 @@ impl Oracle {
 
     pub fn datagrams(&self, src_port: u16, dst_port: u16, data: &[u8]) -> String {
         let built = SlirpBackend::make_udp_payload(src_port, dst_port, data);
-        let ends = match u16::from_be_bytes([built[4], built[5]]) as usize == built.len() {
+        let ends = match half_word(&built, 4) == built.len() {
             true => format!("(gives {})", self.writer.argument(&built, &[8])),
             false => "cuts".to_string(),
         };
@@ -239,7 +216,7 @@ impl Oracle {
         flags: u8,
         data: &[u8],
     ) -> String {
-        self.bring_counter(counter);
+        self.ids.bring_to(counter);
         let (seq, ack) = numbers;
         let built = SlirpBackend::make_tcp_frame(mac, src, dst, seq, ack, flags, data);
         let ends = self.counted(&built);
@@ -266,22 +243,4 @@ impl Oracle {
             self.writer.argument(&built, &[240])
         )
     }
-}
-
-fn is_ipv4(frame: &[u8]) -> bool {
-    frame[12..ETHERNET] == [0x08, 0x00]
-}
-
-/// The total length in the frame is not the length of what is there.
-fn is_cut(frame: &[u8]) -> bool {
-    u16::from_be_bytes([frame[16], frame[17]]) as usize != frame.len() - ETHERNET
-}
-
-/// What the call gives, or that it panics, of which nothing is printed.
-fn quietly<T>(call: impl FnOnce() -> T) -> Result<T, ()> {
-    let hook = panic::take_hook();
-    panic::set_hook(Box::new(|_| {}));
-    let outcome = panic::catch_unwind(AssertUnwindSafe(call));
-    panic::set_hook(hook);
-    outcome.map_err(|_| ())
 }

@@ -9,6 +9,8 @@ mod draws;
 mod guest_frames;
 mod run_inputs;
 mod run_rows;
+#[allow(dead_code)]
+mod the_rust;
 
 use antt_text::Writer;
 use run_inputs::*;
