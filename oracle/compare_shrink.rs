@@ -88,8 +88,9 @@ impl Shrinking<'_> {
         loop {
             let before = self.best.bytes.clone();
             self.plain_header();
-            self.cut_pieces();
+            // First, since to try every byte of a long frame that cannot be cut takes all the time.
             self.make_zero();
+            self.cut_pieces();
             if before == self.best.bytes || Instant::now() > self.until {
                 return;
             }
