@@ -24,7 +24,7 @@ use Rattle.tcp.specs.Builders.{dataLimit, makeTcpFrame}
 use Rattle.tcp.specs.Rfc9293.{options, tcpFrame}
 use Rattle.tcp.proofs.TcpLaws.{length-tcpFrame}
 use Rattle.tcp.specs.declared.Endpoints.{Endpoints}
-use Rattle.equal.specs.Alike.{theEnds, cameOfBuilder, writtenAs, refusedAs}
+use Rattle.equal.specs.Alike.{theEnds, cameOfBuilder, writtenAs, unwrittenAs}
 use Rattle.equal.specs.Builders.{FrameEquals, DatagramEquals}
 use Rattle.equal.specs.Types.{Bytes, Array, GuestTyped, EndsTyped}
 use Rattle.equal.proofs.Operations.{ending, gives-one}
@@ -107,7 +107,7 @@ module _ (limit len need : ℕ) (image : List ℕ) (run : Run (List ℕ)) (size 
             (rw (le-ltb limit len (g .0), le-ltb (length before) need (omega (arith, room, size, ap length (g .1))), ← size) at m);
         lacks-room = λ built e short.
             let g = run-ended′ .gives-there built e in
-            subst (λ (x : List ℕ). Wrote (refusedAs (5 ∷ length x ∷ [])) before after verdict) (g .1)
+            subst (λ (x : List ℕ). Wrote (unwrittenAs (5 ∷ length x ∷ [])) before after verdict) (g .1)
             (rw (le-ltb limit len (g .0), lt-ltb (length before) need (omega (arith, short, size, ap length (g .1))), ← size) at m);
         cuts-exactly = run-ended′ .cuts-there;
         too-long = λ e. rw (lt-ltb limit len (run-ended′ .cuts-there .0 e)) at m;

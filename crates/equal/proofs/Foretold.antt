@@ -22,7 +22,7 @@ use Rattle.rules.specs.declared.decision.Decision.the-variants.{Drop, DropNotin
 use Rattle.rules.proofs.Says.{Says, says}
 use Rattle.slirp.proofs.Echo.{length-echo}
 use Rattle.slirp.proofs.ReadBack.{arp-reads-back, echo-frame-reads-back, dhcp-reads-back}
-use Rattle.equal.specs.Alike.{recordOf, handoff, added, cameOf, Keeps, Handed, AllHanded}
+use Rattle.equal.specs.Alike.{recordOf, handoff, writtenAs, added, cameOf, Keeps, Handed, AllHanded}
 use Rattle.equal.specs.Types.{Bytes, GuestTyped}
 use Rattle.equal.specs.Where.{HeaderPast}
 use Rattle.equal.proofs.Ran.{Ran, send-ran}
@@ -51,7 +51,7 @@ module _ (self : SlirpBackend) (frame : List ℕ) where
 
   came-pushed : (image : List ℕ) (counter xid : ℕ)
       → Came self frame (pushed image counter (withXid xid self))
-      (record { writing = record { numbers = 1 ∷ length image ∷ []; image = image }; guest = record { mac = self .«guest_mac»; id = counter; xid = xid } })
+      (record { writing = writtenAs image; guest = record { mac = self .«guest_mac»; id = counter; xid = xid } })
   came-pushed image counter xid =
       record {
         came = rw (one-added (self .«rx_pending») image, none-added (self .calls));
@@ -69,7 +69,7 @@ module _ (self : SlirpBackend) (frame : List ℕ) where
 
 -- a frame that is to be built, by the room
 module _ (guest next : Guest) (need room : ℕ) (image : List ℕ) (size : length image ≡ need) where
-  fits : length image ≤ room → framing guest next need room image ≡ record { writing = record { numbers = 1 ∷ length image ∷ []; image = image }; guest = next }
+  fits : length image ≤ room → framing guest next need room image ≡ record { writing = writtenAs image; guest = next }
   unfolding framing
   fits h = rw (le-ltb room need (omega arith), size)
 

@@ -30,14 +30,21 @@ handoff («handle_dns» «data» mac ip port) = 2 ∷ «data» .start ∷ lenOf 
 handoff («relay_datagram» mac ip port ip′ port′ «data») = 3 ∷ «data» .start ∷ lenOf «data» ∷ []
 handoff («handle_tcp» frame) = 4 ∷ lenOf frame ∷ []
 
+-- these bytes are written, or none
+abbrev pub writtenAs : (built : List ℕ) → Writing
+writtenAs built = record { numbers = 1 ∷ length built ∷ []; image = built }
+
+abbrev pub unwrittenAs : (numbers : List ℕ) → Writing
+unwrittenAs numbers = record { numbers = numbers; image = [] }
+
 -- What was done, in document 01's numbers and with the reply's bytes: nothing, one frame pushed, or one call. No answer has the numbers of anything else.
 abbrev pub done : (frames : List (List ℕ)) (calls : List Call) → Writing
-done [] [] = record { numbers = 0 ∷ []; image = [] }
-done [] (call ∷ []) = record { numbers = handoff call; image = [] }
-done [] (call ∷ call′ ∷ calls) = record { numbers = []; image = [] }
-done (frame ∷ []) [] = record { numbers = 1 ∷ length frame ∷ []; image = frame }
-done (frame ∷ []) (call ∷ calls) = record { numbers = []; image = [] }
-done (frame ∷ frame′ ∷ frames) calls = record { numbers = []; image = [] }
+done [] [] = unwrittenAs (0 ∷ [])
+done [] (call ∷ []) = unwrittenAs (handoff call)
+done [] (call ∷ call′ ∷ calls) = unwrittenAs []
+done (frame ∷ []) [] = writtenAs frame
+done (frame ∷ []) (call ∷ calls) = unwrittenAs []
+done (frame ∷ frame′ ∷ frames) calls = unwrittenAs []
 
 -- what a list has got behind what it had
 abbrev pub added : {A : Type 0} → (had has : List A) → List A
@@ -69,13 +76,4 @@ AllHanded frame (call ∷ calls) = Handed frame call × AllHanded frame calls
 
 -- what came of a builder that took this record's id: its frame, and the record with the counter behind it
 abbrev pub cameOfBuilder : Guest → Counted → Outcome
-cameOfBuilder guest made =
-    record { writing = record { numbers = 1 ∷ length (made .frame) ∷ []; image = made .frame }; guest = record { mac = guest .mac; id = made .counter; xid = guest .xid } }
-
--- what came of one that takes none
-abbrev pub writtenAs : (built : List ℕ) → Writing
-writtenAs built = record { numbers = 1 ∷ length built ∷ []; image = built }
-
--- nothing is written
-abbrev pub refusedAs : (numbers : List ℕ) → Writing
-refusedAs numbers = record { numbers = numbers; image = [] }
+cameOfBuilder guest made = record { writing = writtenAs (made .frame); guest = record { mac = guest .mac; id = made .counter; xid = guest .xid } }

@@ -11,7 +11,7 @@ use Rattle.frames.specs.declared.answer.Verdict.{Verdict}
 use Rattle.published.specs.Rust.{Run, gives, panics, cuts, unfinished}
 use Rattle.published.specs.Frames.{Counted}
 use Rattle.rules.specs.Rules.{unwritten}
-use Rattle.equal.specs.Alike.{cameOfBuilder, writtenAs, refusedAs}
+use Rattle.equal.specs.Alike.{cameOfBuilder, writtenAs, unwrittenAs}
 
 -- one that takes an id
 pub record FrameEquals (guest : Guest) (run : Run Counted) (limit len : ℕ) (before after : List ℕ) (answer : Answer) : Type 0 where
@@ -29,8 +29,8 @@ pub record FrameEquals (guest : Guest) (run : Run Counted) (limit len : ℕ) (be
 -- one that takes none
 pub record DatagramEquals (run : Run (List ℕ)) (limit len : ℕ) (before after : List ℕ) (verdict : Verdict) : Type 0 where
   pub equal : (built : List ℕ) → run ≡ gives built → length built ≤ length before → Wrote (writtenAs built) before after verdict
-  pub lacks-room : (built : List ℕ) → run ≡ gives built → length before < length built → Wrote (refusedAs (5 ∷ length built ∷ [])) before after verdict
+  pub lacks-room : (built : List ℕ) → run ≡ gives built → length before < length built → Wrote (unwrittenAs (5 ∷ length built ∷ [])) before after verdict
   pub cuts-exactly : (run ≡ cuts) ↔ (limit < len)
-  pub too-long : run ≡ cuts → Wrote (refusedAs (6 ∷ len ∷ [])) before after verdict
+  pub too-long : run ≡ cuts → Wrote (unwrittenAs (6 ∷ len ∷ [])) before after verdict
   pub never-panics : run ≡ panics → ⊥
   pub ends : run ≡ unfinished → ⊥

@@ -1,6 +1,6 @@
 -- The shortest frames on which the Rust panics or cuts a length (docs/DIFFERENCES.md). That no shorter one does is proved beside them.
-use mathlib.Core.List.{List, [], _∷_, _++_}
 use Prim.Native.Nat.{ℕ}
+use mathlib.Core.List.{List, [], _∷_, _++_}
 use lib.ListN.{replicate}
 
 -- from 52:54:00:12:34:56 to the gateway's MAC, IPv4
