@@ -13,7 +13,7 @@ pub const BUILT: u8 = 1;
 pub const NO_ROOM: u8 = 5;
 const TOO_LONG: u8 = 6;
 
-#[derive(Clone)]
+#[derive(Clone, Debug)]
 pub enum Call {
     Ip {
         dst_mac: [u8; 6],
@@ -75,7 +75,7 @@ impl Call {
     }
 
     /// How many bytes stand before the payload.
-    fn head_len(&self) -> usize {
+    pub fn head_len(&self) -> usize {
         match self {
             Call::Ip { .. } => 34,
             Call::Udp { .. } => 8,
@@ -84,11 +84,11 @@ impl Call {
         }
     }
 
-    fn takes_id(&self) -> bool {
+    pub fn takes_id(&self) -> bool {
         !matches!(self, Call::Udp { .. })
     }
 
-    fn ask_the_rust(&self, payload: &[u8]) -> Vec<u8> {
+    pub fn ask_the_rust(&self, payload: &[u8]) -> Vec<u8> {
         match self {
             Call::Ip {
                 dst_mac,

@@ -3,8 +3,8 @@
 use published::SlirpBackend;
 
 use crate::ask_gateway::Whose;
-use crate::cases::SYN;
-use crate::compare_ours::{self, Segment, Told};
+use crate::cases::Call;
+use crate::compare_ours::{self, Told};
 use crate::compare_rust::{TheRust, verdict_of_panic};
 use crate::dhcp_vectors::option_bytes;
 use crate::document_01::{self, Answer, Record, Verdict};
@@ -24,22 +24,7 @@ pub const NAMES: [&str; 7] = [
 
 #[derive(Clone, Debug)]
 pub enum Builder {
-    Ip {
-        ends: ([u8; 6], [u8; 4], [u8; 4]),
-        proto: u8,
-    },
-    Udp {
-        src_port: u16,
-        dst_port: u16,
-    },
-    Tcp {
-        dst_mac: [u8; 6],
-        src: ([u8; 4], u16),
-        dst: ([u8; 4], u16),
-        seq: u32,
-        ack: u32,
-        flags: u8,
-    },
+    Made(Call),
     Checksum,
     /// The Rust's 32-bit sum is not certain here, so it is not asked.
     LongChecksum,
@@ -62,10 +47,7 @@ const LONGEST_OF_THE_RUST: usize = 131_074;
 /// The bytes before the payload, and where a length is cut to 16 bits: the longest payload.
 fn head_and_limit(builder: &Builder) -> (usize, usize) {
     match builder {
-        Builder::Ip { .. } => (34, 65_515),
-        Builder::Udp { .. } => (8, 65_527),
-        Builder::Tcp { flags, .. } if flags & SYN != 0 => (62, 65_487),
-        Builder::Tcp { .. } => (54, 65_495),
+        Builder::Made(call) => (call.head_len(), call.limit()),
         Builder::Checksum | Builder::LongChecksum => (0, LONGEST_OF_THE_RUST),
         Builder::DhcpReply { .. } => (DHCP_REPLY_LEN, 0),
         Builder::MessageType => (0, 0),
@@ -75,9 +57,9 @@ fn head_and_limit(builder: &Builder) -> (usize, usize) {
 impl Builder {
     pub fn index(&self) -> usize {
         match self {
-            Builder::Ip { .. } => 0,
-            Builder::Udp { .. } => 1,
-            Builder::Tcp { .. } => 2,
+            Builder::Made(Call::Ip { .. }) => 0,
+            Builder::Made(Call::Udp { .. }) => 1,
+            Builder::Made(Call::Tcp { .. }) => 2,
             Builder::Checksum => 3,
             Builder::LongChecksum => 4,
             Builder::DhcpReply { .. } => 5,
@@ -88,22 +70,24 @@ impl Builder {
     /// The `turn`th call: the builders and flags go round, the rest is drawn.
     pub fn drawn(draws: &mut Draws, turn: usize) -> Self {
         match turn % 10 {
-            0 | 1 => Builder::Ip {
-                ends: (draws.mac(), draws.ip(), draws.ip()),
+            0 | 1 => Builder::Made(Call::Ip {
+                dst_mac: draws.mac(),
+                src_ip: draws.ip(),
+                dst_ip: draws.ip(),
                 proto: draws.proto(),
-            },
-            2 | 3 => Builder::Udp {
+            }),
+            2 | 3 => Builder::Made(Call::Udp {
                 src_port: draws.port(),
                 dst_port: draws.port(),
-            },
-            4..7 => Builder::Tcp {
+            }),
+            4..7 => Builder::Made(Call::Tcp {
                 dst_mac: draws.mac(),
                 src: (draws.ip(), draws.port()),
                 dst: (draws.ip(), draws.port()),
                 seq: draws.word(),
                 ack: draws.word(),
                 flags: (turn / 10 * 3 + turn % 10 - 4) as u8,
-            },
+            }),
             7 if turn / 10 % TURNS_TO_A_LONG_CHECKSUM == 0 => Builder::LongChecksum,
             7 => Builder::Checksum,
             8 => Builder::DhcpReply { kind: draws.byte() },
@@ -178,20 +162,7 @@ impl Builder {
         room: usize,
     ) -> Result<(Answer, Whose), String> {
         let built = match self {
-            Builder::Ip { ends, proto } => {
-                SlirpBackend::make_ip_frame(&ends.0, &ends.1, &ends.2, *proto, payload)
-            }
-            Builder::Udp { src_port, dst_port } => {
-                SlirpBackend::make_udp_payload(*src_port, *dst_port, payload)
-            }
-            Builder::Tcp {
-                dst_mac,
-                src,
-                dst,
-                seq,
-                ack,
-                flags,
-            } => SlirpBackend::make_tcp_frame(*dst_mac, *src, *dst, *seq, *ack, *flags, payload),
+            Builder::Made(call) => call.ask_the_rust(payload),
             Builder::Checksum => SlirpBackend::checksum(payload).to_be_bytes().to_vec(),
             Builder::LongChecksum => document_01::checksum(payload).to_vec(),
             Builder::DhcpReply { kind } => {
@@ -204,12 +175,12 @@ impl Builder {
         };
         let mut after = record;
         let says_another_length = match self {
-            Builder::Ip { .. } | Builder::Tcp { .. } => {
+            Builder::Made(call) if call.takes_id() => {
                 rust.ids.follow(&built)?;
                 after.id = rust.ids.next();
                 is_cut(&built)
             }
-            Builder::Udp { .. } => half_word(&built, 4) != built.len(),
+            Builder::Made(_) => half_word(&built, 4) != built.len(),
             _ => false,
         };
         let (verdict, reply, after, whose) = if says_another_length {
@@ -232,30 +203,7 @@ impl Builder {
     /// Our answer.
     pub fn ours(&self, record: Record, payload: &[u8], out: &mut [u8]) -> Told {
         match self {
-            Builder::Ip { ends, proto } => {
-                compare_ours::ip_frame(record, *ends, *proto, payload, out)
-            }
-            Builder::Udp { src_port, dst_port } => {
-                compare_ours::udp_payload(record, *src_port, *dst_port, payload, out)
-            }
-            Builder::Tcp {
-                dst_mac,
-                src,
-                dst,
-                seq,
-                ack,
-                flags,
-            } => {
-                let segment = Segment {
-                    dst_mac: *dst_mac,
-                    src: *src,
-                    dst: *dst,
-                    seq: *seq,
-                    ack: *ack,
-                    flags: *flags,
-                };
-                compare_ours::tcp_frame(record, &segment, payload, out)
-            }
+            Builder::Made(call) => compare_ours::built(record, call, payload, out),
             Builder::DhcpReply { kind } => compare_ours::dhcp_reply(record, *kind, out),
             Builder::MessageType => {
                 let (number, values) = compare_ours::message_type(payload);

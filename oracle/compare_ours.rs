@@ -1,5 +1,6 @@
 //! Our side of the comparison: the proved code, linked as an object, and the memory lent to it.
 
+use crate::cases::Call;
 use crate::document_01::Record;
 use crate::draws::Draws;
 
@@ -106,94 +107,62 @@ pub fn handle(record: Record, frame: &[u8], reply: &mut [u8]) -> Told {
     }
 }
 
-pub fn ip_frame(
-    record: Record,
-    (dst_mac, src_ip, dst_ip): ([u8; 6], [u8; 4], [u8; 4]),
-    proto: u8,
-    payload: &[u8],
-    out: &mut [u8],
-) -> Told {
+/// A call of a builder. A datagram takes no id, so there the record is handed back as it is.
+pub fn built(record: Record, call: &Call, payload: &[u8], out: &mut [u8]) -> Told {
     let (mut after, mut values) = (record, UNWRITTEN);
+    let (mac, id, xid) = (after.mac.as_mut_ptr(), &mut after.id, &mut after.xid);
+    let (bytes, len) = (payload.as_ptr(), payload.len());
+    let (at, room, told) = (out.as_mut_ptr(), out.len(), values.as_mut_ptr());
     let number = unsafe {
-        compared_ip_frame(
-            after.mac.as_mut_ptr(),
-            &mut after.id,
-            &mut after.xid,
-            dst_mac.as_ptr(),
-            src_ip.as_ptr(),
-            dst_ip.as_ptr(),
-            proto,
-            payload.as_ptr(),
-            payload.len(),
-            out.as_mut_ptr(),
-            out.len(),
-            values.as_mut_ptr(),
-        )
-    };
-    Told {
-        number,
-        values,
-        after,
-    }
-}
-
-/// A datagram takes no id, so the record is handed back as it is.
-pub fn udp_payload(
-    record: Record,
-    src_port: u16,
-    dst_port: u16,
-    data: &[u8],
-    out: &mut [u8],
-) -> Told {
-    let mut values = UNWRITTEN;
-    let number = unsafe {
-        compared_udp_payload(
-            src_port,
-            dst_port,
-            data.as_ptr(),
-            data.len(),
-            out.as_mut_ptr(),
-            out.len(),
-            values.as_mut_ptr(),
-        )
-    };
-    Told {
-        number,
-        values,
-        after: record,
-    }
-}
-
-pub struct Segment {
-    pub dst_mac: [u8; 6],
-    pub src: ([u8; 4], u16),
-    pub dst: ([u8; 4], u16),
-    pub seq: u32,
-    pub ack: u32,
-    pub flags: u8,
-}
-
-pub fn tcp_frame(record: Record, segment: &Segment, data: &[u8], out: &mut [u8]) -> Told {
-    let (mut after, mut values) = (record, UNWRITTEN);
-    let number = unsafe {
-        compared_tcp_frame(
-            after.mac.as_mut_ptr(),
-            &mut after.id,
-            &mut after.xid,
-            segment.dst_mac.as_ptr(),
-            segment.src.0.as_ptr(),
-            segment.src.1,
-            segment.dst.0.as_ptr(),
-            segment.dst.1,
-            segment.seq,
-            segment.ack,
-            segment.flags,
-            data.as_ptr(),
-            data.len(),
-            out.as_mut_ptr(),
-            out.len(),
-            values.as_mut_ptr(),
-        )
+        match call {
+            Call::Ip {
+                dst_mac,
+                src_ip,
+                dst_ip,
+                proto,
+            } => compared_ip_frame(
+                mac,
+                id,
+                xid,
+                dst_mac.as_ptr(),
+                src_ip.as_ptr(),
+                dst_ip.as_ptr(),
+                *proto,
+                bytes,
+                len,
+                at,
+                room,
+                told,
+            ),
+            Call::Udp { src_port, dst_port } => {
+                compared_udp_payload(*src_port, *dst_port, bytes, len, at, room, told)
+            }
+            Call::Tcp {
+                dst_mac,
+                src,
+                dst,
+                seq,
+                ack,
+                flags,
+            } => compared_tcp_frame(
+                mac,
+                id,
+                xid,
+                dst_mac.as_ptr(),
+                src.0.as_ptr(),
+                src.1,
+                dst.0.as_ptr(),
+                dst.1,
+                *seq,
+                *ack,
+                *flags,
+                bytes,
+                len,
+                at,
+                room,
+                told,
+            ),
+        }
     };
     Told {
         number,
