@@ -2,7 +2,9 @@
 ghost use mathlib.Core.Path.{_≡_};
 ghost use Rattle.frames.specs.Answer.{fresh, movedOn, spent};
 
-// One guest: its MAC, the id of the next IPv4 frame built for it, and its last DHCP xid.
+// One guest: its MAC, the id of the next IPv4 frame built for it, and its last DHCP xid. `host` lends it to C, so its
+// layout is C's.
+#[repr(C)]
 pub struct Guest {
     pub mac: [u8; 6],
     pub id: u16,

@@ -1,0 +1,42 @@
+-- From what a call of ours promises to what an exported call tells.
+use Prim.Native.Nat.{ℕ}
+use mathlib.Core.Bool.{Bool, true, false}
+use mathlib.Core.List.{List, _∷_}
+use mathlib.Core.Path.{_≡_, sym, ap, _∙_}
+use lib.Dec.{ltb}
+use Rattle.frames.specs.Answer.{Meets, Writing, Wrote, paper, spending, spent}
+use Rattle.frames.specs.Pick.{pick}
+use Rattle.frames.specs.declared.answer.Answer.{Answer}
+use Rattle.frames.specs.declared.answer.Guest.{Guest}
+use Rattle.frames.specs.declared.answer.Verdict.{Verdict}
+use Rattle.grammar.specs.Report.{Reads}
+use Rattle.host.specs.Parts.{Says, numberOf, placesOf}
+use Rattle.host.specs.Told.{Built, Told, padded}
+use Rattle.reader.specs.Told.{told as told·reading}
+use Rattle.reader.specs.declared.parts.Reading.{Reading}
+
+pub told-of : {w : Writing} {before after : List ℕ} {v : Verdict} {number : ℕ} {values : List ℕ}
+    → Wrote w before after v → number ∷ values ≡ padded (paper v) → Told w before after number values
+told-of wrote e = record { numbers = e ∙ ap padded (wrote .numbers); bytes = wrote .bytes }
+
+-- the id afterwards goes by the id before
+id-after : (b d : Bool) (g h : Guest) → h .id ≡ g .id → pick b g (pick d g (spent g)) .id ≡ pick b h (pick d h (spent h)) .id
+id-after true d g h e = sym e
+id-after false true g h e = sym e
+id-after false false g h e = ap (λ (i : ℕ). spent (record { mac = g .mac; id = i; xid = g .xid }) .id) (sym e)
+
+-- A builder looks at nothing of the record but the id: what it does with one record is what it does with every record of the same id.
+pub built-of : (limit len need room : ℕ) (image : ℕ → List ℕ) (used : Guest) (lent : ℕ) {before after : List ℕ} {a : Answer} {number : ℕ} {values : List ℕ}
+    → used .id ≡ lent → Meets (spending used limit len need room (image (used .id))) before after a → number ∷ values ≡ padded (paper (a .verdict))
+    → Built lent (λ (guest : Guest). spending guest limit len need room (image (guest .id))) before after number values (a .guest .id)
+unfolding spending
+built-of limit len need room image used lent e meets told =
+    record {
+      told = λ guest same. rw (same ∙ sym e) (told-of (meets .wrote) told);
+      id = λ guest same. ap (λ (g : Guest). g .id) (meets .guest) ∙ id-after (ltb limit len) (ltb room need) used guest (same ∙ sym e);
+    }
+
+pub says-of : {frame before after : List ℕ} {answer : ℕ} {r s : Reading}
+    → Reads frame (told·reading r) → r ≡ s → answer ≡ numberOf (told·reading s) → after ≡ placesOf before (told·reading s) → Says frame before after answer
+says-of {frame = frame} {s = s} reads e number places =
+    record { report = told·reading s; reads = rw (sym e) reads; number = number; parts = places }

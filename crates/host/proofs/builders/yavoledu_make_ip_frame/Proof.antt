@@ -1,0 +1,30 @@
+-- `builders::yavoledu_make_ip_frame` meets its contract.
+use Prim.Native.Nat.{ℕ}
+use mathlib.Core.Path.{ap}
+use Rattle.frames.specs.declared.answer.Guest.{Guest}
+use Rattle.frames.specs.Rfc791.{ipFrame}
+use Rattle.host.proofs.Telling.{built-of}
+use borrow.Author.Needs.{needs}
+use Rattle.host.proofs.builders.yavoledu_make_ip_frame.Statement.{statement}
+use Rattle.host.proofs.builders.yavoledu_make_ip_frame.Tie as tie
+
+of-id-requires : tie.Need-of-id-requires
+of-id-requires c κs = search needs
+
+make-ip-frame-requires : tie.Need-make-ip-frame-requires
+make-ip-frame-requires c κs = search needs
+
+numbered-requires : tie.Need-numbered-requires
+numbered-requires c κs = search needs
+
+same-length : tie.Need-same-length
+same-length c = search needs
+
+returns : tie.Need-returns
+returns c =
+    built-of _ _ _ _ (λ (i : ℕ). ipFrame _ i _ _ _ _) _ _ (ap (λ (g : Guest). g .id) (c .before .before .before .before .before .before .before .before .before .before .of-id .ensures)) (c .before .before .before .before .before .make-ip-frame .ensures) (c .numbered .ensures)
+
+pub yavoledu-make-ip-frame-spec : {M : Type 1} → statement M
+yavoledu-make-ip-frame-spec =
+    tie.close
+    (tie.spec of-id-requires make-ip-frame-requires numbered-requires same-length returns)

@@ -1,0 +1,104 @@
+-- `reading::yavoledu_read` meets its contract, kind by kind.
+use mathlib.Core.Path.{refl}
+use Rattle.host.proofs.Telling.{says-of}
+use Rattle.host.specs.Parts.{kindNumber, numberOf, places, placesOf}
+use Rattle.reader.specs.Told.{told}
+use borrow.Author.Needs.{needs}
+use Rattle.host.proofs.reading.yavoledu_read.Statement.{statement}
+use Rattle.host.proofs.reading.yavoledu_read.Tie as tie
+
+read-requires : tie.Need-read-requires
+read-requires c κs = search needs
+
+enum-known-ethernet : tie.Need-enum-known-ethernet
+enum-known-ethernet c = search needs
+
+lay-requires : tie.Need-lay-requires
+lay-requires c κs = search needs
+
+enum-known-ethernet-2 : tie.Need-enum-known-ethernet-2
+enum-known-ethernet-2 c = search needs
+
+lay-requires-2 : tie.Need-lay-requires-2
+lay-requires-2 c κs = search needs
+
+enum-known-ethernet-3 : tie.Need-enum-known-ethernet-3
+enum-known-ethernet-3 c = search needs
+
+lay-requires-3 : tie.Need-lay-requires-3
+lay-requires-3 c κs = search needs
+
+enum-known-ethernet-4 : tie.Need-enum-known-ethernet-4
+enum-known-ethernet-4 c = search needs
+
+lay-requires-4 : tie.Need-lay-requires-4
+lay-requires-4 c κs = search needs
+
+enum-known-ethernet-5 : tie.Need-enum-known-ethernet-5
+enum-known-ethernet-5 c = search needs
+
+lay-requires-5 : tie.Need-lay-requires-5
+lay-requires-5 c κs = search needs
+
+enum-known-ethernet-6 : tie.Need-enum-known-ethernet-6
+enum-known-ethernet-6 c = search needs
+
+lay-requires-6 : tie.Need-lay-requires-6
+lay-requires-6 c κs = search needs
+
+enum-told : tie.Need-enum-told
+enum-told c = search needs
+
+returns : tie.Need-returns
+unfolding told numberOf kindNumber placesOf places
+returns c = says-of (c .before .before .before .before .before .read .ensures) (c .before .before .before .ethernet .given .1) (c .lay .ensures .0) (c .lay .ensures .1)
+
+returns-2 : tie.Need-returns-2
+unfolding told numberOf kindNumber placesOf places
+returns-2 c = says-of (c .before .before .before .before .before .read .ensures) (c .before .before .before .ethernet2 .given .1) (c .lay2 .ensures .0) (c .lay2 .ensures .1)
+
+returns-3 : tie.Need-returns-3
+unfolding told numberOf kindNumber placesOf places
+returns-3 c = says-of (c .before .before .before .before .before .read .ensures) (c .before .before .before .ethernet3 .given .1) (c .lay3 .ensures .0) (c .lay3 .ensures .1)
+
+returns-4 : tie.Need-returns-4
+unfolding told numberOf kindNumber placesOf places
+returns-4 c = says-of (c .before .before .before .before .before .read .ensures) (c .before .before .before .ethernet4 .given .1) (c .lay4 .ensures .0) (c .lay4 .ensures .1)
+
+returns-5 : tie.Need-returns-5
+unfolding told numberOf kindNumber placesOf places
+returns-5 c = says-of (c .before .before .before .before .before .read .ensures) (c .before .before .before .ethernet5 .given .1) (c .lay5 .ensures .0) (c .lay5 .ensures .1)
+
+returns-6 : tie.Need-returns-6
+unfolding told numberOf kindNumber placesOf places
+returns-6 c = says-of (c .before .before .before .before .before .read .ensures) (c .before .before .before .ethernet6 .given .1) (c .lay6 .ensures .0) (c .lay6 .ensures .1)
+
+returns-7 : tie.Need-returns-7
+unfolding told numberOf placesOf
+returns-7 c = says-of (c .before .before .read .ensures) (c .enum-told .given .1) refl refl
+
+pub yavoledu-read-spec : {M : Type 1} → statement M
+yavoledu-read-spec =
+    tie.close
+    (tie.spec
+    read-requires
+    enum-known-ethernet
+    lay-requires
+    enum-known-ethernet-2
+    lay-requires-2
+    enum-known-ethernet-3
+    lay-requires-3
+    enum-known-ethernet-4
+    lay-requires-4
+    enum-known-ethernet-5
+    lay-requires-5
+    enum-known-ethernet-6
+    lay-requires-6
+    enum-told
+    returns
+    returns-2
+    returns-3
+    returns-4
+    returns-5
+    returns-6
+    returns-7)

@@ -1,0 +1,105 @@
+// The three builders and the checksum, for C. A frame takes of the record the id alone, which is lent.
+ghost use lib.ListN.{length};
+ghost use mathlib.Core.Path.{_≡_};
+ghost use mathlib.Core.List.{[], _∷_};
+ghost use Rattle.frames.specs.Builders.{makeIpFrame, makeUdpPayload};
+ghost use Rattle.host.specs.Told.{Built, Told};
+ghost use Rattle.sums.specs.Rfc1071.{checksum as Rfc1071·checksum};
+ghost use Rattle.tcp.specs.Builders.{makeTcpFrame};
+use crate::numbers::numbered;
+use frames::Guest;
+use frames::make_ip_frame;
+use frames::make_udp_payload;
+use sums::checksum;
+use tcp::Endpoints;
+use tcp::make_tcp_frame;
+
+#[no_mangle]
+pub extern "C" fn yavoledu_make_ip_frame(
+    id: &mut u16,
+    dst_mac: &[u8; 6],
+    src_ip: &[u8; 4],
+    dst_ip: &[u8; 4],
+    proto: u8,
+    payload: &[u8],
+    out: &mut [u8],
+    values: &mut [usize; 2],
+) -> u32
+    ensures { λ r. ⌜ Built (now (id .entry))
+        (λ guest. makeIpFrame guest (now («dst_mac» .entry)) (now («src_ip» .entry)) (now («dst_ip» .entry)) proto (now (payload .entry)) (length (now (out .entry))))
+        (now (out .entry)) (now (out .exit)) r (now (values .exit)) (now (id .exit)) ⌝ }
+{
+    let answer = make_ip_frame(of_id(*id), *dst_mac, *src_ip, *dst_ip, proto, payload, out);
+    let after = answer.guest;
+    *id = after.id;
+    let verdict = answer.verdict;
+    numbered(verdict, values)
+}
+
+#[no_mangle]
+pub extern "C" fn yavoledu_make_udp_payload(
+    src_port: u16,
+    dst_port: u16,
+    data: &[u8],
+    out: &mut [u8],
+    values: &mut [usize; 2],
+) -> u32
+    ensures { λ r. ⌜ Told
+        (makeUdpPayload «src_port» «dst_port» (now («data» .entry)) (length (now (out .entry))))
+        (now (out .entry)) (now (out .exit)) r (now (values .exit)) ⌝ }
+{
+    numbered(make_udp_payload(src_port, dst_port, data, out), values)
+}
+
+#[no_mangle]
+pub extern "C" fn yavoledu_make_tcp_frame(
+    id: &mut u16,
+    dst_mac: &[u8; 6],
+    src_ip: &[u8; 4],
+    src_port: u16,
+    dst_ip: &[u8; 4],
+    dst_port: u16,
+    seq: u32,
+    ack: u32,
+    flags: u8,
+    data: &[u8],
+    out: &mut [u8],
+    values: &mut [usize; 2],
+) -> u32
+    ensures { λ r. ⌜ Built (now (id .entry))
+        (λ guest. makeTcpFrame guest
+        (record { «dst_mac» = now («dst_mac» .entry); «src_ip» = now («src_ip» .entry); «src_port» = «src_port»; «dst_ip» = now («dst_ip» .entry); «dst_port» = «dst_port» })
+        seq ack flags (now («data» .entry)) (length (now (out .entry))))
+        (now (out .entry)) (now (out .exit)) r (now (values .exit)) (now (id .exit)) ⌝ }
+{
+    let ends = Endpoints {
+        dst_mac: *dst_mac,
+        src_ip: *src_ip,
+        src_port,
+        dst_ip: *dst_ip,
+        dst_port,
+    };
+    let answer = make_tcp_frame(of_id(*id), ends, seq, ack, flags, data, out);
+    let after = answer.guest;
+    *id = after.id;
+    let verdict = answer.verdict;
+    numbered(verdict, values)
+}
+
+#[no_mangle]
+pub extern "C" fn yavoledu_checksum(data: &[u8]) -> u16
+    ensures { λ r. ⌜ r ≡ Rfc1071·checksum (now («data» .entry)) ⌝ }
+{
+    checksum(data)
+}
+
+// Some record with this id: a builder looks at nothing else of it.
+fn of_id(id: u16) -> Guest
+    ensures { λ r. ⌜ r ≡ record { mac = 0 ∷ 0 ∷ 0 ∷ 0 ∷ 0 ∷ 0 ∷ []; id = id; xid = 0 } ⌝ }
+{
+    Guest {
+        mac: [0; 6],
+        id,
+        xid: 0,
+    }
+}

@@ -1,0 +1,38 @@
+// The thin entry: the record is lent, and the new one is stored.
+ghost use lib.ListN.{length};
+ghost use Rattle.frames.specs.Answer.{Meets};
+ghost use Rattle.frames.specs.Network.{network};
+ghost use Rattle.host.specs.Told.{Sent};
+ghost use Rattle.rules.specs.Rules.{outcome};
+use crate::numbers::numbered;
+use frames::Guest;
+use frames::Verdict;
+use slirp::handle;
+
+// What a frame of this guest gets. The promise is `handle`'s, of the verdict and of the record as it stands behind
+// the reference afterwards.
+pub fn send(guest: &mut Guest, frame: &[u8], reply: &mut [u8]) -> Verdict
+    ensures { λ r. ⌜ Meets
+        (outcome network (now (guest .entry)) (now (frame .entry)) (length (now (reply .entry))))
+        (now (reply .entry)) (now (reply .exit)) (record { verdict = r; guest = now (guest .exit) }) ⌝ }
+{
+    let answer = handle(*guest, frame, reply);
+    *guest = answer.guest;
+    answer.verdict
+}
+
+// The same, its verdict told as a number and two values.
+#[no_mangle]
+pub extern "C" fn yavoledu_send(
+    guest: &mut Guest,
+    frame: &[u8],
+    reply: &mut [u8],
+    values: &mut [usize; 2],
+) -> u32
+    ensures { λ r. ⌜ Sent
+        (outcome network (now (guest .entry)) (now (frame .entry)) (length (now (reply .entry))))
+        (now (reply .entry)) (now (reply .exit)) r (now (values .exit)) (now (guest .exit)) ⌝ }
+{
+    let verdict = send(guest, frame, reply);
+    numbered(verdict, values)
+}

@@ -1,0 +1,95 @@
+/* Yavoledu: the part of a guest network that a guest can reach with one frame, proved. See README.md.
+ *
+ * No function here asks anything of its arguments but that they are there: a pointer with a length leads to that many
+ * bytes, and what is written is no part of anything else that is lent. Lengths may be anything, 0 too; then the pointer
+ * is not followed, but it must not be null. No function allocates, keeps what it is lent, or calls anything else; each
+ * may be called by any number of threads at once that lend it different memory.
+ *
+ * The number that a call answers is that of document 01:
+ *
+ *   number              values[0]              values[1]    changed, besides values
+ *   0 drop              0                      0            at most the xid
+ *   1 reply             bytes of it, n         0            the first n bytes of the reply; the id on IPv4; the xid on DHCP
+ *   2 DNS               start of the data      its length   nothing
+ *   3 relay             start of the data      its length   nothing
+ *   4 TCP handoff       the frame's length     0            nothing
+ *   5 no room           bytes needed           0            nothing
+ *   6 too long          the length too long    0            nothing
+ *   7 cut message type  place of option 53     0            nothing
+ *   8 outside the grammar: yavoledu_read alone
+ */
+#ifndef YAVOLEDU_H
+#define YAVOLEDU_H
+
+#include <stddef.h>
+#include <stdint.h>
+
+#ifdef __cplusplus
+extern "C" {
+#endif
+
+enum {
+    YAVOLEDU_DROP = 0,
+    YAVOLEDU_REPLY = 1,
+    YAVOLEDU_DNS = 2,
+    YAVOLEDU_RELAY = 3,
+    YAVOLEDU_TCP = 4,
+    YAVOLEDU_NO_ROOM = 5,
+    YAVOLEDU_TOO_LONG = 6,
+    YAVOLEDU_CUT_TYPE = 7,
+    YAVOLEDU_OUTSIDE = 8
+};
+
+/* The record that the host keeps for each guest. A new guest has id 1 and xid 0. */
+typedef struct {
+    uint8_t mac[6];
+    uint16_t id;  /* of the next IPv4 frame built for the guest */
+    uint32_t xid; /* of its last DHCP message; the message's first byte is the highest */
+} yavoledu_guest;
+
+/* What a frame of this guest gets. The data of 2 and 3 is the frame's own: frame + values[0], values[1] bytes. */
+uint32_t yavoledu_send(yavoledu_guest *guest, const uint8_t *frame, size_t frame_len, uint8_t *reply, size_t reply_len,
+                       size_t values[2]);
+
+/* The builders answer 1, 5 or 6. A frame takes *id, which then grows by 1 and goes from 65,535 to 0; lend it the id of
+ * the guest's record. It comes from the gateway's MAC, 52:54:00:00:00:01. On 5 and 6 only values is written. */
+
+/* An IPv4 frame around a payload of at most 65,515 bytes: 34 bytes and the payload. */
+uint32_t yavoledu_make_ip_frame(uint16_t *id, const uint8_t dst_mac[6], const uint8_t src_ip[4], const uint8_t dst_ip[4],
+                                uint8_t proto, const uint8_t *payload, size_t payload_len, uint8_t *out, size_t out_len,
+                                size_t values[2]);
+
+/* A UDP datagram, checksum 0, around at most 65,527 bytes of data: 8 bytes and the data. */
+uint32_t yavoledu_make_udp_payload(uint16_t src_port, uint16_t dst_port, const uint8_t *data, size_t data_len, uint8_t *out,
+                                   size_t out_len, size_t values[2]);
+
+/* A TCP segment in an IPv4 frame: 54 bytes and the data. Where bit 0x02 of the flags is set, eight option bytes stand
+ * before the data. At most 65,495 bytes of data, or 65,487 with the options. */
+uint32_t yavoledu_make_tcp_frame(uint16_t *id, const uint8_t dst_mac[6], const uint8_t src_ip[4], uint16_t src_port,
+                                 const uint8_t dst_ip[4], uint16_t dst_port, uint32_t seq, uint32_t ack, uint8_t flags,
+                                 const uint8_t *data, size_t data_len, uint8_t *out, size_t out_len, size_t values[2]);
+
+/* The checksum of RFC 1071, of any number of bytes; an odd last byte is the high half of a word. */
+uint16_t yavoledu_checksum(const uint8_t *data, size_t data_len);
+
+/* What yavoledu_read answers of a frame that the grammar derives. */
+enum {
+    YAVOLEDU_KIND_ARP = 1,
+    YAVOLEDU_KIND_ICMP = 2,
+    YAVOLEDU_KIND_UDP = 3,
+    YAVOLEDU_KIND_DHCP = 4,
+    YAVOLEDU_KIND_TCP = 5,
+    YAVOLEDU_KIND_OTHER_IPV4 = 6
+};
+
+/* The strict reader: the frame's kind, or YAVOLEDU_OUTSIDE, on which parts is left as it was.
+ * parts has three places for each layer, counted from the frame's first byte: where its header starts, where its
+ * payload starts, where that stops. At 0 Ethernet; at 3 IPv4; at 6 ICMP, UDP or TCP; at 9 the DHCP message, whose
+ * payload is its options; at 12 the DHCP message type. What a kind doesn't have is 0. */
+uint32_t yavoledu_read(const uint8_t *frame, size_t frame_len, size_t parts[13]);
+
+#ifdef __cplusplus
+}
+#endif
+
+#endif
