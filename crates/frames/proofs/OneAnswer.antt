@@ -13,7 +13,7 @@ use Rattle.frames.specs.declared.answer.Verdict.{Verdict}
 use Rattle.frames.specs.declared.answer.Verdict.the-variants.{Drop, Reply, Dns, Relay, Tcp, NoRoom, TooLong, CutType}
 
 -- the verdict with these numbers
-verdictOf : List ℕ → Verdict
+unfoldable pub verdictOf : List ℕ → Verdict
 verdictOf s =
     pick (eqb (getD s 0 0) 0) Drop
     (pick (eqb (getD s 0 0) 1) (Reply (getD s 1 0))

@@ -26,14 +26,14 @@ id-after false true g h e = sym e
 id-after false false g h e = ap (λ (i : ℕ). spent (record { mac = g .mac; id = i; xid = g .xid }) .id) (sym e)
 
 -- A builder looks at nothing of the record but the id: what it does with one record is what it does with every record of the same id.
-pub built-of : (limit len need room : ℕ) (image : ℕ → List ℕ) (used : Guest) (lent : ℕ) {before after : List ℕ} {a : Answer} {number : ℕ} {values : List ℕ}
-    → used .id ≡ lent → Meets (spending used limit len need room (image (used .id))) before after a → number ∷ values ≡ padded (paper (a .verdict))
-    → Built lent (λ (guest : Guest). spending guest limit len need room (image (guest .id))) before after number values (a .guest .id)
+pub built-of : (limit len need room : ℕ) (image : ℕ → List ℕ) (used : Guest) (lent : ℕ) {before after : List ℕ} {a : Answer} {number : ℕ} {values : List ℕ} {stored : ℕ}
+    → used .id ≡ lent → Meets (spending used limit len need room (image (used .id))) before after a → number ∷ values ≡ padded (paper (a .verdict)) → stored ≡ a .guest .id
+    → Built lent (λ (guest : Guest). spending guest limit len need room (image (guest .id))) before after number values stored
 unfolding spending
-built-of limit len need room image used lent e meets told =
+built-of limit len need room image used lent e meets told stored =
     record {
       told = λ guest same. rw (same ∙ sym e) (told-of (meets .wrote) told);
-      id = λ guest same. ap (λ (g : Guest). g .id) (meets .guest) ∙ id-after (ltb limit len) (ltb room need) used guest (same ∙ sym e);
+      id = λ guest same. stored ∙ ap (λ (g : Guest). g .id) (meets .guest) ∙ id-after (ltb limit len) (ltb room need) used guest (same ∙ sym e);
     }
 
 pub says-of : {frame before after : List ℕ} {answer : ℕ} {r s : Reading}

@@ -3,10 +3,12 @@ ghost use lib.ListN.{length};
 ghost use mathlib.Core.Path.{_≡_};
 ghost use mathlib.Core.List.{[], _∷_};
 ghost use Rattle.frames.specs.Builders.{makeIpFrame, makeUdpPayload};
-ghost use Rattle.host.specs.Told.{Built, Told};
+ghost use Rattle.frames.specs.Answer.{paper};
+ghost use Rattle.host.specs.Told.{Built, Told, padded};
 ghost use Rattle.sums.specs.Rfc1071.{checksum as Rfc1071·checksum};
 ghost use Rattle.tcp.specs.Builders.{makeTcpFrame};
 use crate::numbers::numbered;
+use frames::Answer;
 use frames::Guest;
 use frames::make_ip_frame;
 use frames::make_udp_payload;
@@ -30,10 +32,7 @@ pub extern "C" fn yavoledu_make_ip_frame(
         (now (out .entry)) (now (out .exit)) r (now (values .exit)) (now (id .exit)) ⌝ }
 {
     let answer = make_ip_frame(of_id(*id), *dst_mac, *src_ip, *dst_ip, proto, payload, out);
-    let after = answer.guest;
-    *id = after.id;
-    let verdict = answer.verdict;
-    numbered(verdict, values)
+    stored(answer, id, values)
 }
 
 #[no_mangle]
@@ -80,10 +79,7 @@ pub extern "C" fn yavoledu_make_tcp_frame(
         dst_port,
     };
     let answer = make_tcp_frame(of_id(*id), ends, seq, ack, flags, data, out);
-    let after = answer.guest;
-    *id = after.id;
-    let verdict = answer.verdict;
-    numbered(verdict, values)
+    stored(answer, id, values)
 }
 
 #[no_mangle]
@@ -91,6 +87,16 @@ pub extern "C" fn yavoledu_checksum(data: &[u8]) -> u16
     ensures { λ r. ⌜ r ≡ Rfc1071·checksum (now («data» .entry)) ⌝ }
 {
     checksum(data)
+}
+
+// Stores the id of the record that came back, and tells the verdict.
+fn stored(answer: Answer, id: &mut u16, values: &mut [usize; 2]) -> u32
+    ensures { λ r. ⌜ (r ∷ now (values .exit) ≡ padded (paper (answer .verdict))) × (now (id .exit) ≡ answer .guest .id) ⌝ }
+{
+    let after = answer.guest;
+    *id = after.id;
+    let verdict = answer.verdict;
+    numbered(verdict, values)
 }
 
 // Some record with this id: a builder looks at nothing else of it.

@@ -1,0 +1,72 @@
+-- The contracts leave one answer, and what C is told is what `handle` answers: nothing is lost in the telling.
+use Prim.Native.Nat.{ℕ}
+use mathlib.Core.List.{List, [], _∷_}
+use mathlib.Core.Path.{_≡_, refl, ap, sym, _∙_}
+use lib.ListN.{length, drop, getD}
+use Rattle.frames.proofs.OneAnswer.{one-outcome, verdictOf}
+use Rattle.frames.specs.Answer.{Meets, Outcome, Writing, paper}
+use Rattle.frames.specs.Network.{network}
+use Rattle.frames.specs.declared.answer.Answer.{Answer}
+use Rattle.frames.specs.declared.answer.Guest.{Guest}
+use Rattle.frames.specs.declared.answer.Verdict.{Verdict}
+use Rattle.frames.specs.declared.answer.Verdict.the-variants.{Drop, Reply, Dns, Relay, Tcp, NoRoom, TooLong, CutType}
+use Rattle.grammar.proofs.Exact.{one-report}
+use Rattle.host.specs.Parts.{Says, placesOf, numberOf}
+use Rattle.host.specs.Told.{Built, Sent, Told, padded}
+use Rattle.rules.specs.Rules.{outcome}
+
+-- the verdict, back from the number and the values
+untold : (v : Verdict) → verdictOf (padded (paper v)) ≡ v
+unfolding paper padded verdictOf
+untold Drop = refl
+untold (Reply n) = refl
+untold (Dns start len) = refl
+untold (Relay start len) = refl
+untold (Tcp n) = refl
+untold (NoRoom needed) = refl
+untold (TooLong len) = refl
+untold (CutType place) = refl
+
+-- different verdicts are told differently
+pub told-one-to-one : (v w : Verdict) → padded (paper v) ≡ padded (paper w) → v ≡ w
+told-one-to-one v w e = sym (untold v) ∙ ap verdictOf e ∙ untold w
+
+-- Two answers of `send`.
+pub send-answers-once : (guest : Guest) (frame before after after′ : List ℕ) (v v′ : Verdict) (g g′ : Guest)
+    → Meets (outcome network guest frame (length before)) before after (record { verdict = v; guest = g })
+    → Meets (outcome network guest frame (length before)) before after′ (record { verdict = v′; guest = g′ }) → (v ≡ v′) × (g ≡ g′) × (after ≡ after′)
+send-answers-once guest frame before after after′ v v′ g g′ m m′ =
+    let same = one-outcome _ before after after′ _ _ m m′ in
+    (ap (λ (a : Answer). a .verdict) (same .0), ap (λ (a : Answer). a .guest) (same .0), same .1)
+
+-- Two answers of an exported call.
+module _ (before after after′ : List ℕ) (n n′ : ℕ) (vs vs′ : List ℕ) where
+  pub one-telling : (w : Writing) → Told w before after n vs → Told w before after′ n′ vs′ → (n ≡ n′) × (vs ≡ vs′) × (after ≡ after′)
+  one-telling w t t′ =
+      let same = t .numbers ∙ sym (t′ .numbers) in
+      (ap (λ (l : List ℕ). getD l 0 0) same, ap (λ (l : List ℕ). drop 1 l) same, t .bytes ∙ sym (t′ .bytes))
+
+  pub yavoledu-send-answers-once : (o : Outcome) (g g′ : Guest) → Sent o before after n vs g → Sent o before after′ n′ vs′ g′
+      → (n ≡ n′) × (vs ≡ vs′) × (after ≡ after′) × (g ≡ g′)
+  yavoledu-send-answers-once o g g′ s s′ =
+      let same = one-telling (o .writing) (s .told) (s′ .told) in
+      (same .0, same .1, same .2, s .guest ∙ sym (s′ .guest))
+
+  -- of a builder that is lent the id
+  pub built-answers-once : (lent i i′ : ℕ) (made : Guest → Outcome) → Built lent made before after n vs i → Built lent made before after′ n′ vs′ i′
+      → (n ≡ n′) × (vs ≡ vs′) × (after ≡ after′) × (i ≡ i′)
+  built-answers-once lent i i′ made t t′ =
+      let some : Guest = record { mac = []; id = lent; xid = 0 } in
+      let same = one-telling (made some .writing) (t .told some refl) (t′ .told some refl) in
+      (same .0, same .1, same .2, t .id some refl ∙ sym (t′ .id some refl))
+
+pub yavoledu-read-answers-once : (frame before after after′ : List ℕ) (n n′ : ℕ) → Says frame before after n → Says frame before after′ n′ → (n ≡ n′) × (after ≡ after′)
+yavoledu-read-answers-once frame before after after′ n n′ s s′ =
+    let same = one-report frame (s .report) (s′ .report) (s .reads) (s′ .reads) in
+    (s .number ∙ ap numberOf same ∙ sym (s′ .number), s .parts ∙ ap (placesOf before) same ∙ sym (s′ .parts))
+
+-- What `handle` answers on the same input is what `yavoledu_send` tells: the verdict by its number and values, the buffer and the record.
+pub tells-what-handle-answers : (o : Outcome) (before after after′ : List ℕ) (a : Answer) (n : ℕ) (vs : List ℕ) (g : Guest)
+    → Meets o before after a → Sent o before after′ n vs g → (n ∷ vs ≡ padded (paper (a .verdict))) × (after′ ≡ after) × (g ≡ a .guest)
+tells-what-handle-answers o before after after′ a n vs g m s =
+    (s .told .numbers ∙ ap padded (sym (m .wrote .numbers)), s .told .bytes ∙ sym (m .wrote .bytes), s .guest ∙ sym (m .guest))
