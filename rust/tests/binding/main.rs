@@ -1,0 +1,11 @@
+//! The binding and the library behind it, tested from outside. What is expected comes from document 01 (its names C1, P1, D0 and
+//! so on are used here), or is put together by `frames`, which uses nothing of the library.
+
+mod builders;
+mod checksum;
+mod frames;
+mod layout;
+mod reader;
+mod refusals;
+mod replies;
+mod verdicts;

@@ -1,0 +1,218 @@
+//! The strict reader on each kind, its places counted by hand from how the frame is put together, and on frames with one thing
+//! wrong.
+
+use std::thread;
+
+use yavoledu::{Guest, Layer, Reading, Verdict, read};
+
+use crate::frames::*;
+
+const fn layer(header: usize, payload: usize, stop: usize) -> Layer {
+    Layer {
+        header,
+        payload,
+        stop,
+    }
+}
+
+fn frame(packet: &[u8]) -> Vec<u8> {
+    ethernet(GATEWAY_MAC, GUEST_MAC, 0x0800, packet)
+}
+
+fn datagram_frame(options: &[u8], datagram: &[u8]) -> Vec<u8> {
+    frame(&ipv4(1, UDP, GUEST_IP, GATEWAY_IP, options, datagram))
+}
+
+/// It is read so, and with a byte more or less it is outside the grammar.
+fn assert_read(frame: &[u8], expected: Reading) {
+    assert_eq!(read(frame), Some(expected));
+    assert_eq!(read(&[frame, &[0]].concat()), None);
+    assert_eq!(read(&frame[..frame.len() - 1]), None);
+}
+
+#[test]
+fn nothing_at_all() {
+    assert_eq!(read(&[]), None);
+}
+
+#[test]
+fn arp_requests_and_replies() {
+    let whole = layer(0, 14, 42);
+    assert_read(&arp_request(), Reading::Arp { ethernet: whole });
+    let reply = arp(2, (GATEWAY_MAC, GATEWAY_IP), (GUEST_MAC, GUEST_IP));
+    let reply = ethernet(GUEST_MAC, GATEWAY_MAC, 0x0806, &reply);
+    assert_read(&reply, Reading::Arp { ethernet: whole });
+
+    let neither = arp(3, (GATEWAY_MAC, GATEWAY_IP), (GUEST_MAC, GUEST_IP));
+    assert_eq!(
+        read(&ethernet(GUEST_MAC, GATEWAY_MAC, 0x0806, &neither)),
+        None
+    );
+}
+
+#[test]
+fn icmp() {
+    // 14, 20, 8 and 5 bytes
+    let message = echo(8, b"\x00\x01\x00\x01hello");
+    let read_so = Reading::Icmp {
+        ethernet: layer(0, 14, 47),
+        ip: layer(14, 34, 47),
+        message: layer(34, 42, 47),
+    };
+    assert_read(&ping(b"\x00\x01\x00\x01hello"), read_so);
+
+    let mut wrong = message.clone();
+    wrong[12] ^= 1;
+    assert_eq!(read(&from_guest(ICMP, GATEWAY_IP, &wrong)), None);
+}
+
+#[test]
+fn udp_with_options_in_its_ipv4_header() {
+    // 14, 20 and 12, 8 and 4 bytes
+    let frame = datagram_frame(&[1; 12], &udp(1024, 7, b"data"));
+    let read_so = Reading::Udp {
+        ethernet: layer(0, 14, 58),
+        ip: layer(14, 46, 58),
+        datagram: layer(46, 54, 58),
+    };
+    assert_read(&frame, read_so);
+    let Some(Reading::Udp {
+        ethernet,
+        ip,
+        datagram,
+    }) = read(&frame)
+    else {
+        unreachable!();
+    };
+    assert_eq!(frame[ethernet.header_range()], frame[..14]);
+    assert_eq!(frame[ethernet.payload_range()], frame[14..]);
+    assert_eq!(frame[ip.header_range()][20..], [1; 12]);
+    assert_eq!(frame[datagram.header_range()], udp(1024, 7, b"data")[..8]);
+    assert_eq!(&frame[datagram.payload_range()], b"data");
+}
+
+#[test]
+fn udp_with_a_checksum() {
+    let mut datagram = udp(1024, 7, b"data");
+    let sum = checksum(&with_pseudo_header(UDP, GUEST_IP, GATEWAY_IP, &datagram));
+    datagram[6..8].copy_from_slice(&sum.to_be_bytes());
+    let read_so = Reading::Udp {
+        ethernet: layer(0, 14, 46),
+        ip: layer(14, 34, 46),
+        datagram: layer(34, 42, 46),
+    };
+    assert_read(&datagram_frame(&[], &datagram), read_so);
+
+    datagram[7] ^= 1;
+    assert_eq!(read(&datagram_frame(&[], &datagram)), None);
+}
+
+#[test]
+fn dhcp_of_a_client() {
+    // 14, 20, 8, 240 and 9 bytes: two pads, the message type, a host name, END
+    let options = [0, 0, 53, 1, 3, 12, 1, b'h', 255];
+    let read_so = Reading::Dhcp {
+        ethernet: layer(0, 14, 291),
+        ip: layer(14, 34, 291),
+        datagram: layer(34, 42, 291),
+        message: layer(42, 282, 291),
+        message_type: 3,
+    };
+    assert_read(&from_dhcp_client(&dhcp_message(&options)), read_so);
+
+    for wrong in [
+        &[53, 1, 3][..],            // no END
+        &[53, 1, 9, 255],           // no such type
+        &[53, 2, 3, 3, 255],        // of two bytes
+        &[53, 1, 3, 53, 1, 3, 255], // twice
+        &[255],                     // never
+        &[53, 1, 3, 255, 0, 1],     // more than zeros behind END
+        &[53, 1, 3, 12, 2, b'h'],   // past the end
+    ] {
+        assert_eq!(
+            read(&from_dhcp_client(&dhcp_message(wrong))),
+            None,
+            "{wrong:?}"
+        );
+    }
+}
+
+#[test]
+fn dhcp_of_the_gateway() {
+    let mut reply = [0; 342];
+    let request = from_dhcp_client(&dhcp_message(&[53, 1, 3, 255]));
+    let verdict = Guest::new(GUEST_MAC).send(&request, &mut reply);
+    assert_eq!(verdict, Verdict::Reply(342));
+    let read_so = Reading::Dhcp {
+        ethernet: layer(0, 14, 342),
+        ip: layer(14, 34, 342),
+        datagram: layer(34, 42, 342),
+        message: layer(42, 282, 342),
+        message_type: 5,
+    };
+    assert_read(&reply, read_so);
+}
+
+#[test]
+fn tcp_with_options() {
+    let fields = TcpFields {
+        src_port: 1024,
+        dst_port: 80,
+        seq: 1,
+        ack: 2,
+        flags: 0x18,
+    };
+    // 14, 20, 20 and 12, and 5 bytes
+    let segment = tcp(&fields, GUEST_IP, OUTSIDE_IP, &[1; 12], b"hello");
+    let read_so = Reading::Tcp {
+        ethernet: layer(0, 14, 71),
+        ip: layer(14, 34, 71),
+        segment: layer(34, 66, 71),
+    };
+    assert_read(&from_guest(TCP, OUTSIDE_IP, &segment), read_so);
+
+    let mut wrong = segment;
+    wrong[4] ^= 1;
+    assert_eq!(read(&from_guest(TCP, OUTSIDE_IP, &wrong)), None);
+}
+
+#[test]
+fn other_ipv4() {
+    let read_so = Reading::OtherIpv4 {
+        ethernet: layer(0, 14, 38),
+        ip: layer(14, 34, 38),
+    };
+    assert_read(&from_guest(253, OUTSIDE_IP, b"free"), read_so);
+
+    let mut fragment = ipv4(1, 253, GUEST_IP, OUTSIDE_IP, &[], b"free");
+    fragment[6] = 0x20;
+    fragment[10..12].fill(0);
+    let sum = checksum(&fragment[..20]);
+    fragment[10..12].copy_from_slice(&sum.to_be_bytes());
+    assert_eq!(read(&frame(&fragment)), None);
+}
+
+#[test]
+fn a_padded_ping_is_answered_and_is_outside_the_grammar() {
+    let padded = [ping(&PING), vec![0; 18]].concat();
+    assert_eq!(read(&padded), None);
+    let verdict = Guest::new(GUEST_MAC).send(&padded, &mut [0; 100]);
+    assert_eq!(verdict, Verdict::Reply(60));
+}
+
+#[test]
+fn the_deepest_list_fits_into_64_kib_of_stack() {
+    // The reader nests a call for each item, and most with pads: 1,232 bytes of options are all that a message may have.
+    let options = [&[53, 1, 1][..], &[0; 1228], &[255]].concat();
+    let frame = from_dhcp_client(&dhcp_message(&options));
+    let reader = thread::Builder::new().stack_size(64 * 1024);
+    let reading = reader.spawn(move || read(&frame)).unwrap().join().unwrap();
+    let expected = Reading::Dhcp {
+        ethernet: layer(0, 14, 1514),
+        ip: layer(14, 34, 1514),
+        datagram: layer(34, 42, 1514),
+        message: layer(42, 282, 1514),
+        message_type: 1,
+    };
+    assert_eq!(reading, Some(expected));
+}
