@@ -2,8 +2,8 @@
  *
  * No function here asks anything of its arguments but that they are there: a pointer with a length leads to that many
  * bytes, and what is written is no part of anything else that is lent. Lengths may be anything, 0 too; then the pointer
- * is not followed, but it must not be null. No function allocates, keeps what it is lent, or calls anything else; each
- * may be called by any number of threads at once that lend it different memory.
+ * is not followed, but it must not be null. No function allocates, keeps what it is lent, has data of its own, or calls
+ * anything but memcpy; any number of threads may call at once that lend different memory.
  *
  * The number that a call answers is that of document 01:
  *
@@ -47,7 +47,8 @@ typedef struct {
     uint32_t xid; /* of its last DHCP message; the message's first byte is the highest */
 } yavoledu_guest;
 
-/* What a frame of this guest gets. The data of 2 and 3 is the frame's own: frame + values[0], values[1] bytes. */
+/* What a frame of this guest gets. The data of 2 and 3 is the frame's own: frame + values[0], values[1] bytes.
+ * With frame_len + 16 bytes of room, and 342 at least, 5 is never answered; no reply is longer than 65,549. */
 uint32_t yavoledu_send(yavoledu_guest *guest, const uint8_t *frame, size_t frame_len, uint8_t *reply, size_t reply_len,
                        size_t values[2]);
 
