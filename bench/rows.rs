@@ -1,0 +1,289 @@
+//! The rows of the table: what is timed on each side, and that both sides do the same.
+
+use std::hint::black_box;
+
+use published::handed::{self, To};
+use published::{NetworkBackend, SlirpBackend};
+
+use crate::draws::{GUEST_IP, GUEST_MAC};
+use crate::guest_frames::{ELSEWHERE, dns_query};
+use crate::inputs;
+use crate::ours::{self, Guest};
+use crate::the_rust::IdCounter;
+
+/// Makes so many calls, one behind the other.
+pub type Calls = Box<dyn FnMut(u64)>;
+
+pub struct Row {
+    pub name: &'static str,
+    /// The reader has no Rust behind it, and no goal.
+    pub rust: Option<(Calls, Goal)>,
+    pub ours: Calls,
+}
+
+/// At most so many times the Rust's time.
+#[derive(Clone, Copy)]
+pub struct Goal(pub f64);
+
+/// Where the sum takes most of the time, and elsewhere.
+const RULED_BY_THE_SUM: Goal = Goal(1.0);
+const NOT_RULED: Goal = Goal(0.5);
+
+/// A host of the Rust's finds the reply in its queue; that there is none it learns there too.
+enum Queue {
+    LookedInto,
+    LeftAlone,
+}
+
+/// Room for the longest frame.
+pub const ROOM: usize = 65_549;
+
+pub fn all() -> Vec<Row> {
+    let replied = |name, goal, frame| gateway(name, goal, frame, ours::REPLY, Queue::LookedInto);
+    let handed_on =
+        |name, frame, verdict| gateway(name, NOT_RULED, frame, verdict, Queue::LeftAlone);
+    vec![
+        replied("ARP request", NOT_RULED, inputs::arp_request()),
+        replied("ping, 56 bytes", NOT_RULED, inputs::ping_of(56)),
+        replied(
+            "ping, 1,480 bytes",
+            RULED_BY_THE_SUM,
+            inputs::ping_of(1_480),
+        ),
+        replied(
+            "ping, 65,507 bytes",
+            RULED_BY_THE_SUM,
+            inputs::ping_of(65_507),
+        ),
+        replied("DHCP discover", NOT_RULED, inputs::discover()),
+        handed_on(
+            "relayed datagram, 512 bytes",
+            inputs::datagram_for_outside(512),
+            ours::RELAY,
+        ),
+        handed_on("DNS query handed on", dns_query(), ours::DNS),
+        handed_on("TCP frame handed on", inputs::opening_segment(), ours::TCP),
+        handed_on("dropped frame", inputs::ipv6(), ours::DROP),
+        gateway(
+            "dropped frame, and a look into the queue",
+            NOT_RULED,
+            inputs::ipv6(),
+            ours::DROP,
+            Queue::LookedInto,
+        ),
+        segment("`make_tcp_frame`, 1,460 bytes", 1_460),
+        checksum("`checksum`, 64 bytes", 64),
+        checksum("`checksum`, 1,480 bytes", 1_480),
+        checksum("`checksum`, 65,515 bytes", 65_515),
+        reading(
+            "strict reader: ping, 56 bytes",
+            inputs::ping_of(56),
+            ours::KIND_ICMP,
+        ),
+        reading(
+            "strict reader: DHCP discover",
+            inputs::discover(),
+            ours::KIND_DHCP,
+        ),
+        reading(
+            "strict reader: DHCP, 1,229 items",
+            inputs::most_items(),
+            ours::KIND_DHCP,
+        ),
+        empty_call("a call that does nothing", inputs::ipv6()),
+    ]
+}
+
+fn calls(mut call: impl FnMut() + 'static) -> Calls {
+    Box::new(move |calls| {
+        for _ in 0..calls {
+            call();
+        }
+    })
+}
+
+fn gateway(name: &'static str, goal: Goal, frame: Vec<u8>, verdict: u32, queue: Queue) -> Row {
+    assert_same_deed(name, &frame, verdict);
+    let frame: &'static [u8] = frame.leak();
+    let mut backend = SlirpBackend::new(GUEST_MAC);
+    let rust = match queue {
+        // The reply, where there is one, is let go of.
+        Queue::LookedInto => calls(move || {
+            backend.send(black_box(frame));
+            black_box(&backend.recv());
+        }),
+        Queue::LeftAlone => calls(move || backend.send(black_box(frame))),
+    };
+    let (mut guest, mut reply, mut values) = (new_guest(1), vec![0; ROOM], [0; 2]);
+    let ours = calls(move || {
+        black_box(send(&mut guest, black_box(frame), &mut reply, &mut values));
+    });
+    Row {
+        name,
+        rust: Some((rust, goal)),
+        ours,
+    }
+}
+
+fn new_guest(id: u16) -> Guest {
+    let (mac, xid) = (GUEST_MAC, 0);
+    Guest { mac, id, xid }
+}
+
+#[inline(always)]
+fn send(guest: &mut Guest, frame: &[u8], reply: &mut [u8], values: &mut [usize; 2]) -> u32 {
+    let (at, room) = (reply.as_mut_ptr(), reply.len());
+    unsafe { ours::yavoledu_send(guest, frame.as_ptr(), frame.len(), at, room, values) }
+}
+
+/// From the same record both do what this verdict says, with the same bytes, numbers and record.
+fn assert_same_deed(name: &str, frame: &[u8], verdict: u32) {
+    let ids = IdCounter::new();
+    let mut backend = SlirpBackend::new(GUEST_MAC);
+    backend.send(frame);
+    let (received, handed) = (backend.recv(), handed::take());
+
+    let (mut guest, mut reply, mut values) = (new_guest(ids.next()), vec![0xa5; ROOM], [0; 2]);
+    let number = send(&mut guest, frame, &mut reply, &mut values);
+    assert_eq!(number, verdict, "{name}");
+    assert_eq!(guest.xid, backend.dhcp_xid(), "{name}");
+    assert!(backend.recv().is_none(), "{name}");
+    match (number, received, handed) {
+        (ours::REPLY, Some(sent), None) => assert!(reply[..values[0]] == sent, "{name}"),
+        (ours::DROP, None, None) => {}
+        (number, None, Some((to, place, len))) => {
+            let start = place - frame.as_ptr() as usize;
+            let (told, expected) = match to {
+                To::Dns => (ours::DNS, [start, len]),
+                To::Relay => (ours::RELAY, [start, len]),
+                To::Tcp => (ours::TCP, [len, start]),
+            };
+            assert_eq!((number, values), (told, expected), "{name}");
+        }
+        _ => panic!("{name}: the Rust did something else"),
+    }
+    assert_eq!(guest.id, IdCounter::new().next().wrapping_sub(1), "{name}");
+}
+
+const SOURCE: ([u8; 4], u16) = (ELSEWHERE, 443);
+const TARGET: ([u8; 4], u16) = (GUEST_IP, 40_000);
+const SEQUENCE: u32 = 0x1122_3344;
+const ACKNOWLEDGED: u32 = 0x5566_7788;
+const PSH_AND_ACK: u8 = 0x18;
+
+fn segment(name: &'static str, len: usize) -> Row {
+    let data: &'static [u8] = inputs::filling(len).leak();
+    let rust_frame = move || {
+        let data = black_box(data);
+        SlirpBackend::make_tcp_frame(
+            GUEST_MAC,
+            SOURCE,
+            TARGET,
+            SEQUENCE,
+            ACKNOWLEDGED,
+            PSH_AND_ACK,
+            data,
+        )
+    };
+    let our_frame = move |id: &mut u16, out: &mut [u8], values: &mut [usize; 2]| {
+        let (data, at, room) = (black_box(data), out.as_mut_ptr(), out.len());
+        unsafe {
+            ours::yavoledu_make_tcp_frame(
+                id,
+                &GUEST_MAC,
+                &SOURCE.0,
+                SOURCE.1,
+                &TARGET.0,
+                TARGET.1,
+                SEQUENCE,
+                ACKNOWLEDGED,
+                PSH_AND_ACK,
+                data.as_ptr(),
+                data.len(),
+                at,
+                room,
+                values,
+            )
+        }
+    };
+    let (mut id, mut out, mut values) = (IdCounter::new().next(), vec![0xa5; ROOM], [0; 2]);
+    let expected = rust_frame();
+    assert_eq!(
+        our_frame(&mut id, &mut out, &mut values),
+        ours::REPLY,
+        "{name}"
+    );
+    assert!(out[..values[0]] == expected, "{name}");
+    Row {
+        name,
+        rust: Some((
+            calls(move || {
+                black_box(&rust_frame());
+            }),
+            RULED_BY_THE_SUM,
+        )),
+        ours: calls(move || {
+            black_box(our_frame(&mut id, &mut out, &mut values));
+        }),
+    }
+}
+
+fn checksum(name: &'static str, len: usize) -> Row {
+    let data: &'static [u8] = inputs::filling(len).leak();
+    let rust_sum = move || SlirpBackend::checksum(black_box(data));
+    let our_sum = move || {
+        let data = black_box(data);
+        unsafe { ours::yavoledu_checksum(data.as_ptr(), data.len()) }
+    };
+    assert_eq!(rust_sum(), our_sum(), "{name}");
+    Row {
+        name,
+        rust: Some((
+            calls(move || {
+                black_box(rust_sum());
+            }),
+            RULED_BY_THE_SUM,
+        )),
+        ours: calls(move || {
+            black_box(our_sum());
+        }),
+    }
+}
+
+/// What the loop and a call by themselves take, which is in every other row too.
+fn empty_call(name: &'static str, frame: Vec<u8>) -> Row {
+    let frame: &'static [u8] = frame.leak();
+    let ours = calls(move || {
+        black_box(returns_at_once(black_box(frame)));
+    });
+    Row {
+        name,
+        rust: None,
+        ours,
+    }
+}
+
+#[inline(never)]
+fn returns_at_once(frame: &[u8]) -> u32 {
+    // So that the call is not taken for one that can be left out.
+    black_box(());
+    frame.len() as u32
+}
+
+fn reading(name: &'static str, frame: Vec<u8>, kind: u32) -> Row {
+    let frame: &'static [u8] = frame.leak();
+    let mut parts = [0; 13];
+    let mut read = move || {
+        let frame = black_box(frame);
+        unsafe { ours::yavoledu_read(frame.as_ptr(), frame.len(), &mut parts) }
+    };
+    assert_eq!(read(), kind, "{name}");
+    let ours = calls(move || {
+        black_box(read());
+    });
+    Row {
+        name,
+        rust: None,
+        ours,
+    }
+}
