@@ -1,4 +1,5 @@
 pub mod Marked
+pub mod Room
 pub mod Table
 pub mod Host
 pub mod Derivations
