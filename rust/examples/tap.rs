@@ -1,0 +1,306 @@
+//! Serves a TAP device with the proved gateway: a small host around the crate, for Linux.
+//!
+//!     tap NAME
+//!
+//! It attaches to the TAP device NAME, and creates one where there is none. Each frame sent into the
+//! device goes to the gateway, with the record of the MAC that it came from; a reply is written back.
+//! What the gateway hands to its host (DNS, relay, TCP) is printed, a line each, and served by nobody;
+//! so are refusals. Nothing but the device is opened. SIGTERM and SIGINT end it, with a tally.
+//!
+//!     guest 52:54:00:12:34:56
+//!     dns 52:54:00:12:34:56 10.0.2.15:40000 to 10.0.2.2:53, start 42, length 29
+//!     tcp 52:54:00:12:34:56 10.0.2.15:40001 to 10.0.2.2:80, length 74
+//!
+//! The first line is for a new record. Start and length of `dns` and `relay` are those of the data in
+//! the frame, the length of `tcp` is the frame's. `rust/tap-namespace` shows it at work.
+
+use std::collections::HashMap;
+use std::env;
+use std::ffi::{c_int, c_short, c_ulong};
+use std::fmt;
+use std::fs::{File, OpenOptions};
+use std::io::{self, ErrorKind, Read, Write};
+use std::net::{Ipv4Addr, SocketAddrV4};
+use std::os::fd::AsRawFd;
+use std::process::ExitCode;
+use std::sync::atomic::{AtomicBool, Ordering};
+
+use yavoledu::{Guest, Verdict};
+
+/// The most MACs that get a record. A frame from any further one gets no answer and is counted. No
+/// record makes room for another, since a guest that lost its own would see its ids start again.
+/// Who makes up MACs can so shut out those that come later on the same device: a host that serves
+/// many guests knows each by its link, not by what its frames say.
+const MOST_GUESTS: usize = 64;
+
+/// More than a TAP device can send: its MTU is at most 65,521, with a header of 14 bytes and tags.
+const FRAME_ROOM: usize = 65_600;
+/// The gateway's longest reply: with this room it has never too little.
+const REPLY_ROOM: usize = 65_549;
+/// A frame shorter than its Ethernet header has no MAC to look up, and the gateway drops it.
+const ETHERNET_HEADER: usize = 14;
+const UDP_HEADER: usize = 8;
+
+fn main() -> ExitCode {
+    let mut words = env::args().skip(1);
+    let (Some(name), None) = (words.next(), words.next()) else {
+        eprintln!("usage: tap NAME");
+        return ExitCode::from(2);
+    };
+    let device = match linux::attach(&name) {
+        Ok(device) => device,
+        Err(error) => {
+            eprintln!("tap: can't attach to {name}: {error}");
+            return ExitCode::FAILURE;
+        }
+    };
+    linux::end_on_signals();
+    let mut host = Host {
+        device,
+        guests: HashMap::new(),
+        tally: Tally::default(),
+    };
+    let served = host.serve(&name);
+    println!("tally: {}, guests {}", host.tally, host.guests.len());
+    match served {
+        Ok(()) => ExitCode::SUCCESS,
+        Err(error) => {
+            eprintln!("tap: {name}: {error}");
+            ExitCode::FAILURE
+        }
+    }
+}
+
+struct Host {
+    device: File,
+    guests: HashMap<[u8; 6], Guest>,
+    tally: Tally,
+}
+
+impl Host {
+    /// Serves until a signal says to end, or until there is nothing left to read from: the device
+    /// was deleted.
+    fn serve(&mut self, name: &str) -> io::Result<()> {
+        println!("serving {name}");
+        let mut frame = vec![0; FRAME_ROOM];
+        let mut reply = vec![0; REPLY_ROOM];
+        while linux::wait_for_a_frame(&self.device)? {
+            let n = self.device.read(&mut frame)?;
+            self.take(&frame[..n], &mut reply);
+        }
+        Ok(())
+    }
+
+    fn take(&mut self, frame: &[u8], reply: &mut [u8]) {
+        self.tally.frames += 1;
+        let Some(&[_, _, _, _, _, _, mac @ .., _, _]) = frame.first_chunk::<ETHERNET_HEADER>()
+        else {
+            self.tally.drops += 1;
+            return;
+        };
+        if !self.guests.contains_key(&mac) && self.guests.len() == MOST_GUESTS {
+            self.tally.without_record += 1;
+            return;
+        }
+        let guest = self.guests.entry(mac).or_insert_with(|| {
+            println!("guest {}", Mac(mac));
+            Guest::new(mac)
+        });
+        match guest.send(frame, reply) {
+            Verdict::Drop => self.tally.drops += 1,
+            Verdict::Reply(n) => self.write(mac, &reply[..n]),
+            Verdict::Dns { start, len } => {
+                self.tally.dns += 1;
+                let ends = ends(frame, start - UDP_HEADER);
+                println!("dns {} {ends}, start {start}, length {len}", Mac(mac));
+            }
+            Verdict::Relay { start, len } => {
+                self.tally.relay += 1;
+                let ends = ends(frame, start - UDP_HEADER);
+                println!("relay {} {ends}, start {start}, length {len}", Mac(mac));
+            }
+            Verdict::Tcp(n) => {
+                self.tally.tcp += 1;
+                let segment = ETHERNET_HEADER + 4 * usize::from(frame[ETHERNET_HEADER] & 0x0f);
+                let ends = ends(frame, segment);
+                println!("tcp {} {ends}, length {n}", Mac(mac));
+            }
+            Verdict::NoRoom(n) => self.refused(mac, format_args!("the reply needs {n} bytes")),
+            Verdict::TooLong(n) => self.refused(mac, format_args!("{n} bytes are too long")),
+            Verdict::CutType(at) => {
+                self.refused(mac, format_args!("the DHCP message type at {at} is cut"));
+            }
+        }
+    }
+
+    /// A reply that can't be written is told, and costs nobody else anything: so it is where the
+    /// guest has taken its link down in the meantime.
+    fn write(&mut self, mac: [u8; 6], reply: &[u8]) {
+        match self.device.write_all(reply) {
+            Ok(()) => self.tally.replies += 1,
+            Err(error) => {
+                self.tally.unsent += 1;
+                println!("unsent {} {} bytes: {error}", Mac(mac), reply.len());
+            }
+        }
+    }
+
+    fn refused(&mut self, mac: [u8; 6], why: fmt::Arguments) {
+        self.tally.refused += 1;
+        println!("refused {} {why}", Mac(mac));
+    }
+}
+
+/// From whom to whom an IPv4 frame goes that the gateway has handed on: it has both addresses, but a
+/// TCP frame, at which the gateway looks no further, may end before its ports.
+fn ends(frame: &[u8], ports: usize) -> String {
+    let address = |at: usize| Ipv4Addr::new(frame[at], frame[at + 1], frame[at + 2], frame[at + 3]);
+    let (from, to) = (address(26), address(30));
+    match frame.get(ports..ports + 4) {
+        Some(&[a, b, c, d]) => {
+            let from = SocketAddrV4::new(from, u16::from_be_bytes([a, b]));
+            let to = SocketAddrV4::new(to, u16::from_be_bytes([c, d]));
+            format!("{from} to {to}")
+        }
+        _ => format!("{from} to {to}, no ports"),
+    }
+}
+
+struct Mac([u8; 6]);
+
+impl fmt::Display for Mac {
+    fn fmt(&self, f: &mut fmt::Formatter) -> fmt::Result {
+        let [a, b, c, d, e, g] = self.0;
+        write!(f, "{a:02x}:{b:02x}:{c:02x}:{d:02x}:{e:02x}:{g:02x}")
+    }
+}
+
+/// What became of the frames. Each is in exactly one of the others.
+#[derive(Default)]
+struct Tally {
+    frames: u64,
+    replies: u64,
+    unsent: u64,
+    drops: u64,
+    dns: u64,
+    relay: u64,
+    tcp: u64,
+    refused: u64,
+    without_record: u64,
+}
+
+impl fmt::Display for Tally {
+    fn fmt(&self, f: &mut fmt::Formatter) -> fmt::Result {
+        let Tally {
+            frames,
+            replies,
+            unsent,
+            drops,
+            dns,
+            relay,
+            tcp,
+            refused,
+            without_record,
+        } = self;
+        write!(f, "frames {frames}, replies {replies}, unsent {unsent}, ")?;
+        write!(f, "drops {drops}, dns {dns}, relay {relay}, tcp {tcp}, ")?;
+        write!(f, "refused {refused}, without a record {without_record}")
+    }
+}
+
+/// What std has no name for: the device's ioctl, waiting with an end to it, and signals. The C
+/// library is linked by std.
+mod linux {
+    use super::*;
+
+    const TUNSETIFF: c_ulong = 0x4004_54ca;
+    const IFF_TAP: c_short = 0x0002;
+    const IFF_NO_PI: c_short = 0x1000; // a read is the frame alone, with no header before it
+    const POLLIN: c_short = 1;
+    const SIGINT: c_int = 2;
+    const SIGTERM: c_int = 15;
+
+    /// Linux's `struct ifreq`, as TUNSETIFF uses it.
+    #[repr(C)]
+    struct InterfaceRequest {
+        name: [u8; 16],
+        flags: c_short,
+        unused: [u8; 22],
+    }
+
+    /// `struct pollfd`.
+    #[repr(C)]
+    struct Wanted {
+        descriptor: c_int,
+        events: c_short,
+        found: c_short,
+    }
+
+    unsafe extern "C" {
+        fn ioctl(descriptor: c_int, request: c_ulong, ...) -> c_int;
+        fn poll(wanted: *mut Wanted, count: c_ulong, milliseconds: c_int) -> c_int;
+        fn signal(number: c_int, handler: extern "C" fn(c_int)) -> usize;
+    }
+
+    static TOLD_TO_END: AtomicBool = AtomicBool::new(false);
+
+    extern "C" fn tell_to_end(_number: c_int) {
+        TOLD_TO_END.store(true, Ordering::Relaxed);
+    }
+
+    pub fn end_on_signals() {
+        for number in [SIGINT, SIGTERM] {
+            // SAFETY: the handler stores into an atomic and does nothing else, which is allowed in
+            // a signal handler.
+            unsafe { signal(number, tell_to_end) };
+        }
+    }
+
+    pub fn attach(name: &str) -> io::Result<File> {
+        let mut request = InterfaceRequest {
+            name: [0; 16],
+            flags: IFF_TAP | IFF_NO_PI,
+            unused: [0; 22],
+        };
+        if name.is_empty() || name.len() >= request.name.len() {
+            let why = "a device's name has 1 to 15 bytes";
+            return Err(io::Error::new(ErrorKind::InvalidInput, why));
+        }
+        request.name[..name.len()].copy_from_slice(name.as_bytes());
+        let device = OpenOptions::new()
+            .read(true)
+            .write(true)
+            .open("/dev/net/tun")?;
+        // SAFETY: the descriptor is open, and what TUNSETIFF reads and writes is one `struct
+        // ifreq`, 40 bytes, which is lent for the call.
+        if unsafe { ioctl(device.as_raw_fd(), TUNSETIFF, &raw mut request) } < 0 {
+            return Err(io::Error::last_os_error());
+        }
+        Ok(device)
+    }
+
+    /// True when there is a frame to read, or an error that reading will tell; false when a signal
+    /// has said to end. A signal that comes right before `poll` doesn't end that: so it ends by
+    /// itself ten times a second.
+    pub fn wait_for_a_frame(device: &File) -> io::Result<bool> {
+        while !TOLD_TO_END.load(Ordering::Relaxed) {
+            let mut wanted = Wanted {
+                descriptor: device.as_raw_fd(),
+                events: POLLIN,
+                found: 0,
+            };
+            // SAFETY: one `struct pollfd` is lent for the call, and its descriptor is open.
+            match unsafe { poll(&raw mut wanted, 1, 100) } {
+                0 => {}
+                1.. => return Ok(true),
+                _ => {
+                    let error = io::Error::last_os_error();
+                    if error.kind() != ErrorKind::Interrupted {
+                        return Err(error);
+                    }
+                }
+            }
+        }
+        Ok(false)
+    }
+}
