@@ -1,11 +1,17 @@
 /* Yavoledu: the part of a guest network that a guest can reach with one frame, proved. See README.md.
  *
- * No function here asks anything of its arguments but that they are there: a pointer with a length leads to that many
- * bytes, and what is written is no part of anything else that is lent. Lengths may be anything, 0 too; then the pointer
- * is not followed, but it must not be null. No function allocates, keeps what it is lent, has data of its own, or calls
- * anything but memcpy; any number of threads may call at once that lend different memory.
+ * No function here asks anything of its arguments but that they are there, as references in Rust are:
+ *   - a pointer with a length leads to that many bytes; it is not null, also where the length is 0. Any length will do;
+ *   - it is aligned as its type is in C;
+ *   - what is written is no part of anything else that is lent: a reply does not overlap its frame, nor out its payload.
+ *     (The id and the MAC of one record, lent to a builder, do not overlap.)
+ * What is lent to be written may hold anything. No function allocates, keeps what it is lent, has data of its own, or
+ * calls anything but memcpy; any number of threads may call at once that lend different memory.
  *
- * The number that a call answers is that of document 01:
+ * Numbers are the machine's own, ports, sequence numbers, ids and checksums too: do not call htons. Addresses and MACs
+ * are bytes in the order of the wire.
+ *
+ * The number that every call but yavoledu_read answers is document 01's, and so are its values:
  *
  *   number              values[0]              values[1]    changed, besides values
  *   0 drop              0                      0            at most the xid
@@ -16,7 +22,8 @@
  *   5 no room           bytes needed           0            nothing
  *   6 too long          the length too long    0            nothing
  *   7 cut message type  place of option 53     0            nothing
- *   8 outside the grammar: yavoledu_read alone
+ *
+ * The start of 2 and 3 is counted from the frame's first byte, the place of 7 from the DHCP message's.
  */
 #ifndef YAVOLEDU_H
 #define YAVOLEDU_H
@@ -44,16 +51,29 @@ enum {
 typedef struct {
     uint8_t mac[6];
     uint16_t id;  /* of the next IPv4 frame built for the guest */
-    uint32_t xid; /* of its last DHCP message; the message's first byte is the highest */
+    uint32_t xid; /* of the last DHCP message that was looked into, but for one that got 5 or 7 */
 } yavoledu_guest;
 
+#if defined(__cplusplus) && __cplusplus >= 201103L
+#define YAVOLEDU_HOLDS(fact) static_assert(fact, #fact)
+#elif defined(__STDC_VERSION__) && __STDC_VERSION__ >= 201112L
+#define YAVOLEDU_HOLDS(fact) _Static_assert(fact, #fact)
+#else
+#define YAVOLEDU_HOLDS(fact) struct yavoledu_not_looked_at
+#endif
+YAVOLEDU_HOLDS(sizeof(size_t) == 8);
+YAVOLEDU_HOLDS(sizeof(yavoledu_guest) == 12);
+YAVOLEDU_HOLDS(offsetof(yavoledu_guest, id) == 6);
+YAVOLEDU_HOLDS(offsetof(yavoledu_guest, xid) == 8);
+#undef YAVOLEDU_HOLDS
+
 /* What a frame of this guest gets. The data of 2 and 3 is the frame's own: frame + values[0], values[1] bytes.
- * With frame_len + 16 bytes of room, and 342 at least, 5 is never answered; no reply is longer than 65,549. */
+ * With 65,549 bytes of room 5 is never answered, nor with frame_len + 16 and 342 at least; no reply is longer. */
 uint32_t yavoledu_send(yavoledu_guest *guest, const uint8_t *frame, size_t frame_len, uint8_t *reply, size_t reply_len,
                        size_t values[2]);
 
 /* The builders answer 1, 5 or 6. A frame takes *id, which then grows by 1 and goes from 65,535 to 0; lend it the id of
- * the guest's record. It comes from the gateway's MAC, 52:54:00:00:00:01. On 5 and 6 only values is written. */
+ * the guest's record. It comes from the gateway's MAC, 52:54:00:00:00:01. On 5 and 6 only values changes. */
 
 /* An IPv4 frame around a payload of at most 65,515 bytes: 34 bytes and the payload. */
 uint32_t yavoledu_make_ip_frame(uint16_t *id, const uint8_t dst_mac[6], const uint8_t src_ip[4], const uint8_t dst_ip[4],
@@ -73,7 +93,7 @@ uint32_t yavoledu_make_tcp_frame(uint16_t *id, const uint8_t dst_mac[6], const u
 /* The checksum of RFC 1071, of any number of bytes; an odd last byte is the high half of a word. */
 uint16_t yavoledu_checksum(const uint8_t *data, size_t data_len);
 
-/* What yavoledu_read answers of a frame that the grammar derives. */
+/* What yavoledu_read answers of a frame that the grammar derives. These are numbers of their own, not the table's. */
 enum {
     YAVOLEDU_KIND_ARP = 1,
     YAVOLEDU_KIND_ICMP = 2,
@@ -83,10 +103,11 @@ enum {
     YAVOLEDU_KIND_OTHER_IPV4 = 6
 };
 
-/* The strict reader: the frame's kind, or YAVOLEDU_OUTSIDE, on which parts is left as it was.
- * parts has three places for each layer, counted from the frame's first byte: where its header starts, where its
- * payload starts, where that stops. At 0 Ethernet; at 3 IPv4; at 6 ICMP, UDP or TCP; at 9 the DHCP message, whose
- * payload is its options; at 12 the DHCP message type. What a kind doesn't have is 0. */
+/* The strict reader (crates/grammar/specs/Grammar.antt is the grammar): the frame's kind, or YAVOLEDU_OUTSIDE, document
+ * 01's 8, on which parts is left as it was. parts has three places for each layer, counted from the frame's first byte:
+ * where its header starts, where that stops and its payload starts, where the payload stops. At 0 Ethernet; at 3 IPv4;
+ * at 6 ICMP, UDP or TCP; at 9 the DHCP message, whose payload is its options; at 12 the DHCP message type. What a kind
+ * doesn't have is 0. A DHCP message of many options takes stack, at most 40 kB; every other call here less than 1 kB. */
 uint32_t yavoledu_read(const uint8_t *frame, size_t frame_len, size_t parts[13]);
 
 #ifdef __cplusplus

@@ -1,18 +1,25 @@
--- The contracts leave one answer, and what C is told is what `handle` answers: nothing is lost in the telling.
-use Prim.Native.Nat.{ℕ}
+-- The contracts leave one answer; what C is told is what `handle` and `read` answer, and nothing of it is lost.
+use Prim.Native.Nat.{ℕ, _+_}
 use mathlib.Core.List.{List, [], _∷_}
 use mathlib.Core.Path.{_≡_, refl, ap, sym, _∙_}
+use lib.Dec.{eqb}
 use lib.ListN.{length, drop, getD}
 use Rattle.frames.proofs.OneAnswer.{one-outcome, verdictOf}
 use Rattle.frames.specs.Answer.{Meets, Outcome, Writing, paper}
 use Rattle.frames.specs.Network.{network}
+use Rattle.frames.specs.Pick.{pick}
 use Rattle.frames.specs.declared.answer.Answer.{Answer}
 use Rattle.frames.specs.declared.answer.Guest.{Guest}
 use Rattle.frames.specs.declared.answer.Verdict.{Verdict}
 use Rattle.frames.specs.declared.answer.Verdict.the-variants.{Drop, Reply, Dns, Relay, Tcp, NoRoom, TooLong, CutType}
 use Rattle.grammar.proofs.Exact.{one-report}
-use Rattle.host.specs.Parts.{Says, placesOf, numberOf}
-use Rattle.host.specs.Told.{Built, Sent, Told, padded}
+use Rattle.grammar.specs.Grammar.{Layer, laid}
+use Rattle.grammar.specs.Report.{Report, arpKind, icmpKind, udpKind, dhcpKind, tcpKind, otherIPv4Kind, parts, refused}
+use Rattle.host.specs.Parts.{Reported, kindNumber, numberOf, places, placesOf}
+use Rattle.host.specs.Exported.{Built, Sent, Told, padded}
+use Rattle.reader.specs.Told.{told}
+use Rattle.reader.specs.declared.parts.Reading.{Reading}
+use Rattle.reader.specs.declared.parts.Reading.the-variants.{Arp, Icmp, Udp, Dhcp, Tcp as Reading·Tcp, OtherIpv4, Outside}
 use Rattle.rules.specs.Rules.{outcome}
 
 -- the verdict, back from the number and the values
@@ -30,6 +37,31 @@ untold (CutType place) = refl
 -- different verdicts are told differently
 pub told-one-to-one : (v w : Verdict) → padded (paper v) ≡ padded (paper w) → v ≡ w
 told-one-to-one v w e = sym (untold v) ∙ ap verdictOf e ∙ untold w
+
+-- a layer, back from its three places
+abbrev layerAt : List ℕ → ℕ → Layer
+layerAt places at = laid (getD places at 0) (getD places (at + 1) 0) (getD places (at + 2) 0)
+
+-- the report, back from the number and the places
+unfoldable pub reportOf : (number : ℕ) (places : List ℕ) → Report
+reportOf n ps =
+    pick (eqb n 1) (parts arpKind (layerAt ps 0 ∷ []) [])
+    (pick (eqb n 2) (parts icmpKind (layerAt ps 0 ∷ layerAt ps 3 ∷ layerAt ps 6 ∷ []) [])
+    (pick (eqb n 3) (parts udpKind (layerAt ps 0 ∷ layerAt ps 3 ∷ layerAt ps 6 ∷ []) [])
+    (pick (eqb n 4) (parts dhcpKind (layerAt ps 0 ∷ layerAt ps 3 ∷ layerAt ps 6 ∷ layerAt ps 9 ∷ []) (getD ps 12 0 ∷ []))
+    (pick (eqb n 5) (parts tcpKind (layerAt ps 0 ∷ layerAt ps 3 ∷ layerAt ps 6 ∷ []) [])
+    (pick (eqb n 6) (parts otherIPv4Kind (layerAt ps 0 ∷ layerAt ps 3 ∷ []) []) (refused n))))))
+
+-- what `read` answers is there in what C is told of it
+pub report-back : (before : List ℕ) (r : Reading) → reportOf (numberOf (told r)) (placesOf before (told r)) ≡ told r
+unfolding reportOf told numberOf kindNumber placesOf places
+report-back before (Arp ethernet) = refl
+report-back before (Icmp ethernet ip message) = refl
+report-back before (Udp ethernet ip datagram) = refl
+report-back before (Dhcp ethernet ip datagram message type) = refl
+report-back before (Reading·Tcp ethernet ip segment) = refl
+report-back before (OtherIpv4 ethernet ip) = refl
+report-back before Outside = refl
 
 -- Two answers of `send`.
 pub send-answers-once : (guest : Guest) (frame before after after′ : List ℕ) (v v′ : Verdict) (g g′ : Guest)
@@ -60,7 +92,7 @@ module _ (before after after′ : List ℕ) (n n′ : ℕ) (vs vs′ : List ℕ)
       let same = one-telling (made some .writing) (t .told some refl) (t′ .told some refl) in
       (same .0, same .1, same .2, t .id some refl ∙ sym (t′ .id some refl))
 
-pub yavoledu-read-answers-once : (frame before after after′ : List ℕ) (n n′ : ℕ) → Says frame before after n → Says frame before after′ n′ → (n ≡ n′) × (after ≡ after′)
+pub yavoledu-read-answers-once : (frame before after after′ : List ℕ) (n n′ : ℕ) → Reported frame before after n → Reported frame before after′ n′ → (n ≡ n′) × (after ≡ after′)
 yavoledu-read-answers-once frame before after after′ n n′ s s′ =
     let same = one-report frame (s .report) (s′ .report) (s .reads) (s′ .reads) in
     (s .number ∙ ap numberOf same ∙ sym (s′ .number), s .parts ∙ ap (placesOf before) same ∙ sym (s′ .parts))

@@ -10,8 +10,8 @@ use Rattle.frames.specs.declared.answer.Answer.{Answer}
 use Rattle.frames.specs.declared.answer.Guest.{Guest}
 use Rattle.frames.specs.declared.answer.Verdict.{Verdict}
 use Rattle.grammar.specs.Report.{Reads}
-use Rattle.host.specs.Parts.{Says, numberOf, placesOf}
-use Rattle.host.specs.Told.{Built, Told, padded}
+use Rattle.host.specs.Parts.{Reported, numberOf, placesOf}
+use Rattle.host.specs.Exported.{Built, Told, padded}
 use Rattle.reader.specs.Told.{told as told·reading}
 use Rattle.reader.specs.declared.parts.Reading.{Reading}
 
@@ -36,7 +36,7 @@ built-of limit len need room image used lent e meets told stored =
       id = λ guest same. stored ∙ ap (λ (g : Guest). g .id) (meets .guest) ∙ id-after (ltb limit len) (ltb room need) used guest (same ∙ sym e);
     }
 
-pub says-of : {frame before after : List ℕ} {answer : ℕ} {r s : Reading}
-    → Reads frame (told·reading r) → r ≡ s → answer ≡ numberOf (told·reading s) → after ≡ placesOf before (told·reading s) → Says frame before after answer
-says-of {frame = frame} {s = s} reads e number places =
+pub reported-of : {frame before after : List ℕ} {answer : ℕ} {r s : Reading}
+    → Reads frame (told·reading r) → r ≡ s → answer ≡ numberOf (told·reading s) → after ≡ placesOf before (told·reading s) → Reported frame before after answer
+reported-of {frame = frame} {s = s} reads e number places =
     record { report = told·reading s; reads = rw (sym e) reads; number = number; parts = places }

@@ -1,2 +1,2 @@
+pub mod Exported
 pub mod Parts
-pub mod Told

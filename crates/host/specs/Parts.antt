@@ -30,7 +30,7 @@ placesOf before (parts kind layers type) = take 12 (places layers ++ replicate 1
 placesOf before (refused number) = before
 
 -- The promise: the reader's, of a report that the number and the places say.
-pub record Says (frame before after : List ℕ) (answer : ℕ) : Type 0 where
+pub record Reported (frame before after : List ℕ) (answer : ℕ) : Type 0 where
   pub report : Report
   pub reads : Reads frame report
   pub number : answer ≡ numberOf report

@@ -4,7 +4,7 @@ ghost use mathlib.Core.Path.{_≡_};
 ghost use mathlib.Core.List.{[], _∷_};
 ghost use Rattle.frames.specs.Builders.{makeIpFrame, makeUdpPayload};
 ghost use Rattle.frames.specs.Answer.{paper};
-ghost use Rattle.host.specs.Told.{Built, Told, padded};
+ghost use Rattle.host.specs.Exported.{Built, Told, padded};
 ghost use Rattle.sums.specs.Rfc1071.{checksum as Rfc1071·checksum};
 ghost use Rattle.tcp.specs.Builders.{makeTcpFrame};
 use crate::numbers::numbered;

@@ -2,7 +2,7 @@
 ghost use lib.ListN.{length};
 ghost use Rattle.frames.specs.Answer.{Meets};
 ghost use Rattle.frames.specs.Network.{network};
-ghost use Rattle.host.specs.Told.{Sent};
+ghost use Rattle.host.specs.Exported.{Sent};
 ghost use Rattle.rules.specs.Rules.{outcome};
 use crate::numbers::numbered;
 use frames::Guest;

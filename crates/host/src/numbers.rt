@@ -2,7 +2,7 @@
 ghost use mathlib.Core.List.{[], _∷_};
 ghost use mathlib.Core.Path.{_≡_};
 ghost use Rattle.frames.specs.Answer.{paper};
-ghost use Rattle.host.specs.Told.{padded};
+ghost use Rattle.host.specs.Exported.{padded};
 use frames::Verdict;
 
 pub(crate) fn numbered(verdict: Verdict, values: &mut [usize; 2]) -> u32

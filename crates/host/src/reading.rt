@@ -1,7 +1,7 @@
 // The strict reader, for C.
 ghost use mathlib.Core.List.{[], _∷_, _++_};
 ghost use mathlib.Core.Path.{_≡_};
-ghost use Rattle.host.specs.Parts.{Says, places};
+ghost use Rattle.host.specs.Parts.{Reported, places};
 ghost use Rattle.reader.specs.Told.{layerOf};
 use reader::Layer;
 use reader::Reading;
@@ -18,7 +18,7 @@ const OUTSIDE: u32 = 8;
 // The kind, from 1 in document 01's order, and the parts; or 8, and `parts` is left alone.
 #[no_mangle]
 pub extern "C" fn yavoledu_read(frame: &[u8], parts: &mut [usize; 13]) -> u32
-    ensures { λ r. ⌜ Says (now (frame .entry)) (now (parts .entry)) (now (parts .exit)) r ⌝ }
+    ensures { λ r. ⌜ Reported (now (frame .entry)) (now (parts .entry)) (now (parts .exit)) r ⌝ }
 {
     match read(frame) {
         Reading::Arp { ethernet } => lay(1, ethernet, ABSENT, ABSENT, ABSENT, 0, parts),

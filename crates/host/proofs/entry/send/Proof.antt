@@ -1,5 +1,8 @@
--- `gw::send` meets its contract: a walk of its MIR, by hand. The borrow of the record is opened, and the record is copied out whole; `handle` is called with the copy and the two slices, at the slices' own lifetimes, shares and names (the `&mut` slice is given up for good); the record that it returned is stored over the old one, whole, and the borrow is closed at it.
--- All that the proof knows of `handle` is that it meets its contract. No field of the record is named: the struct's and the enum's laws come from the modules that `rattle check` makes of them.
+-- `entry::send` meets its contract: a walk of its MIR, by hand. The borrow of the record is opened, and the record is copied out whole;
+-- `handle` is called with the copy and the two slices, at the slices' own lifetimes, shares and names (the `&mut` slice is given up for good);
+-- the record that it returned is stored over the old one, whole, and the borrow is closed at it.
+-- All that the proof knows of `handle` is that it meets its contract. No field of the record is named: the struct's and the enum's laws
+-- come from the modules that `rattle check` makes of them.
 -- Assumes nothing.
 use mathlib.Core.Path.{_≡_, refl, ap}
 use Prim.Native.Nat.{ℕ}

@@ -1,4 +1,6 @@
--- `entry::yavoledu_send` meets its contract: a walk of its MIR, by hand. The reference to the record, the two slices and their tokens go to `send`, for good; the verdict that it returns goes to `numbered`, with the reference to the values and its token. What the two promise is the contract.
+-- `entry::yavoledu_send` meets its contract: a walk of its MIR, by hand. The reference to the record, the two slices and their tokens go to
+-- `send`, for good; the verdict that it returns goes to `numbered`, with the reference to the values and its token. What the two promise is
+-- the contract.
 -- Assumes nothing.
 use mathlib.Core.Path.{_≡_, refl}
 use Prim.Native.Nat.{ℕ}
@@ -42,7 +44,7 @@ use Rattle.frames.specs.Network.{network}
 use Rattle.frames.specs.declared.answer.Guest.{Guest}
 use Rattle.frames.specs.declared.answer.Verdict.{Verdict}
 use Rattle.rules.specs.Rules.{outcome}
-use Rattle.host.specs.Told.{padded}
+use Rattle.host.specs.Exported.{padded}
 use Rattle.frames.proofs.answer.Verdict as D
 use Rattle.frames.proofs.answer.Verdict.Laws as D′
 use Rattle.frames.proofs.answer.Guest as G

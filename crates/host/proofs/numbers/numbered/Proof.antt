@@ -2,7 +2,7 @@
 use mathlib.Core.Path.{_≡_, sym, ap, _∙_}
 use Rattle.frames.specs.Answer.{paper}
 use Rattle.frames.specs.declared.answer.Verdict.{Verdict}
-use Rattle.host.specs.Told.{padded}
+use Rattle.host.specs.Exported.{padded}
 use borrow.Author.Needs.{needs}
 use Rattle.host.proofs.numbers.numbered.Statement.{statement}
 use Rattle.host.proofs.numbers.numbered.Tie as tie
