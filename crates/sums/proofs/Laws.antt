@@ -34,6 +34,28 @@ pub two-folds : (s : ℕ) → s < 4294967296 → (s / 65536 + s % 65536) / 65536
 two-folds zero h = sym fold-zero
 two-folds (suc s) h = rw (fold-pos (suc s) (omega arith)) (omega arith)
 
+-- 65,535 more, `k` times, changes nothing where there is something to fold
+fold-rounds : (s k : ℕ) → 0 < s → fold (s + 65535 * k) ≡ fold s
+fold-rounds s k h = rw (fold-pos s h, fold-pos (s + 65535 * k) (omega arith)) (omega arith)
+
+-- nor where there may be nothing, for then `k` is 0
+pub fold-few-rounds : (s k : ℕ) → k ≤ s → fold (s + 65535 * k) ≡ fold s
+fold-few-rounds zero k h = ap fold (omega arith)
+fold-few-rounds (suc s) k h = fold-rounds (suc s) k (omega arith)
+
+-- a fold that was already done changes nothing in 256 times it either
+pub fold-scaled : (a b : ℕ) → fold (fold a * 256 + b) ≡ fold (a * 256 + b)
+fold-scaled zero b = rw fold-zero
+fold-scaled (suc a) b =
+    rw (fold-pos (suc a) (omega arith)) (sym (fold-rounds (((suc a - 1) % 65535 + 1) * 256 + b) (a / 65535 * 256) (omega arith)) ∙ ap fold (omega arith))
+
+-- RFC 1071, section 2 (B): the two bytes of a sum exchanged are 256 times it, folded
+pub fold-exchanged : (n : ℕ) → n < 65536 → n % 256 * 256 + n / 256 ≡ fold (n * 256)
+fold-exchanged n h =
+    sym (fold-small (n % 256 * 256 + n / 256) (omega arith))
+    ∙ sym (fold-few-rounds (n % 256 * 256 + n / 256) (n / 256) (omega arith))
+    ∙ ap fold (omega arith)
+
 -- a piece of even length is summed by itself
 pub total-append : (k : ℕ) (s t : List ℕ) → length s ≡ k * 2 → total (s ++ t) ≡ total s + total t
 unfolding total words sum
@@ -58,16 +80,31 @@ pub total-none : (s : List ℕ) (i : ℕ) → length s ≤ i → total (drop i s
 unfolding total words sum
 total-none s i h = rw (drop-of-length-le s {i = i} h)
 
--- a piece of even length more: what is folded so far and what is left fold to the same
-pub fold-piece : (s : List ℕ) (at end n k running : ℕ) → n ≡ k * 2 → at + n ≡ end → end ≤ length s
-    → fold (fold (running + total (take n (drop at s))) + total (drop end s)) ≡ fold (running + total (drop at s))
-fold-piece s at end n k running e f h = fold-fold (running + total (take n (drop at s))) (total (drop end s)) ∙ ap fold whole
-  where
-    halves : total (take n (drop at s) ++ drop n (drop at s)) ≡ total (take n (drop at s)) + total (drop n (drop at s))
-    halves = total-append k (take n (drop at s)) (drop n (drop at s)) (simp (length-take, length-drop) (omega arith))
+-- a word added low byte first: 256 times the sum and what is left fold to the same
+pub fold-word : {w : ℕ} (s : List ℕ) (i next so-far : ℕ) → next ≡ i + 2 → next ≤ length s → w ≡ getD s (i + 1) 0 * 256 + getD s i 0
+    → fold ((so-far + w) * 256 + total (drop next s)) ≡ fold (so-far * 256 + total (drop i s))
+fold-word s i next so-far e h f =
+    let step = total-step s i (omega arith) in
+    rw e (ap fold (omega arith) ∙ fold-few-rounds (so-far * 256 + total (drop i s)) (getD s (i + 1) 0) (omega arith))
 
-    whole : running + total (take n (drop at s)) + total (drop end s) ≡ running + total (drop at s)
-    whole = let e′ = rw (take-append-drop, drop-drop, f) at halves in omega arith
+-- a part of which 256 times `w` folds to its sum `t`, added to what is folded so far: with what is left, `u`, the fold is the same
+pub fold-part : {running wide folded : ℕ} (w t u : ℕ) → wide ≡ running → folded ≡ fold (wide + w) → fold (w * 256) ≡ fold t
+    → fold (folded * 256 + u) ≡ fold (running * 256 + (t + u))
+fold-part {running} w t u e f g =
+    rw (f, e)
+    (fold-scaled (running + w) u
+    ∙ ap fold (omega arith)
+    ∙ sym (fold-fold (w * 256) (running * 256 + u))
+    ∙ ap (λ (n : ℕ). fold (n + (running * 256 + u))) g
+    ∙ fold-fold t (running * 256 + u)
+    ∙ ap fold (omega arith))
+
+-- a piece of even length and what is left have the sum of both
+pub total-piece : (s : List ℕ) (at end n k : ℕ) → n ≡ k * 2 → at + n ≡ end → end ≤ length s
+    → total (take n (drop at s)) + total (drop end s) ≡ total (drop at s)
+total-piece s at end n k e f h =
+    let halves = total-append k (take n (drop at s)) (drop n (drop at s)) (simp (length-take, length-drop) (omega arith)) in
+    sym (rw (take-append-drop, drop-drop, f) at halves)
 
 -- a sum is continued over a second piece
 pub fold-more : (start k : ℕ) (s t : List ℕ) → length s ≡ k * 2 → fold (fold (start + total s) + total t) ≡ fold (start + total (s ++ t))

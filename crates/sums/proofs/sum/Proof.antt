@@ -1,24 +1,35 @@
--- `sums::sum` meets its contract. The invariant: what is folded so far and the sum of what is left fold to the whole.
-use Prim.Native.Nat.{ℕ, _+_, _-_, _≤_}
-use mathlib.Core.Path.{_≡_, ap, ap₂, _∙_}
+-- `sums::sum` meets its contract. The invariant: 256 times what is folded so far and the sum of what is left fold as the whole.
+use Prim.Native.Nat.{ℕ, _+_, _*_, _-_, _≤_}
+use mathlib.Core.Path.{_≡_, ap, _∙_}
 use native.Mathlib.Omega.{arith}
 use borrow.Author.Needs.{needs}
-use native.Mathlib.Nat.{le-of-eq}
+use native.Mathlib.Nat.{add-zero, le-of-eq}
 use lib.ListN.{length, drop, length-drop}
 use lib.Seq.{take-all}
 use Rattle.sums.specs.Rfc1071.{total, fold}
-use Rattle.sums.proofs.Laws.{fold-piece}
+use Rattle.sums.proofs.Laws.{fold-part, total-piece, fold-scaled, fold-few-rounds}
 use Rattle.sums.proofs.sum.Statement.{statement}
 use Rattle.sums.proofs.sum.Tie as tie
 
 abbrev Inv-loop : tie.InvT-loop
-Inv-loop start input running₀ at₀ running at = (at ≤ length input) × (fold (running + total (drop at input)) ≡ fold (start + total input))
+Inv-loop start input running₀ at₀ running at = (at ≤ length input) × (fold (running * 256 + total (drop at input)) ≡ fold (start + total input))
 
 abbrev μ-loop : tie.MeasureT-loop
 μ-loop start input running₀ at₀ running at = length input - at
 
+exchanged-requires : tie.Need-exchanged-requires Inv-loop μ-loop
+exchanged-requires c κs = search needs
+
 loop-holds : tie.Need-loop-holds Inv-loop μ-loop
-loop-holds c = search needs
+loop-holds c =
+    let a = c .before .before .args in
+    let t = total (a .input .now) in (
+      omega arith,
+      ap (λ (n : ℕ). fold (n * 256 + t)) (c .exchanged .ensures)
+          ∙ fold-scaled (a .start * 256) t
+          ∙ ap fold (omega arith)
+          ∙ fold-few-rounds (a .start + t) (a .start) (omega arith),
+    )
 
 sub-loop : tie.Need-sub-loop Inv-loop μ-loop
 sub-loop c = search needs
@@ -53,11 +64,11 @@ loop-less c = search needs
 loop-again : tie.Need-loop-again Inv-loop μ-loop
 loop-again c =
     let l = c .before .before .before .before .before .loop in
-    let s = c .before .before .before .before .before .before .before .args .input .now in (
+    let s = c .before .before .before .before .before .before .before .before .args .input .now in (
       omega arith,
-      ap (λ (n : ℕ). fold (n + total (drop (l .at + 65536) s)))
-          (c .folded .ensures ∙ ap₂ (λ (r t : ℕ). fold (r + t)) (c .before .before .before .widened .ensures .0) (c .before .words-total .ensures .0))
-          ∙ fold-piece s (l .at) (l .at + 65536) (l .at + 65536 - l .at) 32768 (l .running) (omega arith) (omega arith) (omega arith)
+      fold-part _ _ (total (drop (l .at + 65536) s)) (c .before .before .before .widened .ensures .0) (c .folded .ensures) (c .before .words-total .ensures .0)
+          ∙ ap (λ (t : ℕ). fold (l .running * 256 + t))
+          (total-piece s (l .at) (l .at + 65536) (l .at + 65536 - l .at) 32768 (omega arith) (omega arith) (omega arith))
           ∙ l .inv .1,
     )
 
@@ -82,13 +93,17 @@ add-folded-2 c = search needs
 folded-requires-2 : tie.Need-folded-requires-2 Inv-loop μ-loop
 folded-requires-2 c κs = search needs
 
+exchanged-requires-2 : tie.Need-exchanged-requires-2 Inv-loop μ-loop
+exchanged-requires-2 c κs = search needs
+
 returns : tie.Need-returns Inv-loop μ-loop
 returns c =
-    let l = c .before .before .before .before .before .loop in
-    let s = c .before .before .before .before .before .before .before .args .input .now in
-    c .folded2 .ensures
-    ∙ ap₂ (λ (r t : ℕ). fold (r + t)) (c .before .before .before .widened2 .ensures .0)
-    (c .before .words-total2 .ensures .0 ∙ ap total (take-all (length s - l .at) (drop (l .at) s) (le-of-eq (length-drop (l .at) s))))
+    let l = c .before .before .before .before .before .before .loop in
+    let s = c .before .before .before .before .before .before .before .before .before .args .input .now in
+    c .exchanged2 .ensures
+    ∙ ap fold (omega arith)
+    ∙ fold-part _ _ 0 (c .before .before .before .before .widened2 .ensures .0) (c .before .folded2 .ensures) (c .before .before .words-total2 .ensures .0)
+    ∙ ap (λ (t : ℕ). fold (l .running * 256 + t)) (add-zero _ ∙ ap total (take-all (length s - l .at) (drop (l .at) s) (le-of-eq (length-drop (l .at) s))))
     ∙ l .inv .1
 
 pub sum-spec : {M : Type 1} → statement M
@@ -97,6 +112,7 @@ sum-spec =
     (tie.spec
     Inv-loop
     μ-loop
+    exchanged-requires
     loop-holds
     sub-loop
     add-end
@@ -116,4 +132,5 @@ sum-spec =
     words-total-requires-2
     add-folded-2
     folded-requires-2
+    exchanged-requires-2
     returns)

@@ -1,40 +1,40 @@
--- `sums::words_total` meets its contract. The invariant: the sum so far and the sum of what is left make the whole, and each word is at most 65,535.
+-- `sums::words_total` meets its contract. The invariant: 256 times the sum so far and the sum of what is left fold as the whole, and each word is at most 65,535.
 use Prim.Native.Nat.{_+_, _*_, _-_, _≤_}
-use mathlib.Core.Path.{_≡_}
+use mathlib.Core.Path.{_≡_, ap, _∙_}
 use native.Mathlib.Omega.{arith}
 use borrow.Author.Needs.{needs}
 use lib.ListN.{length, drop}
-use Rattle.sums.specs.Rfc1071.{total}
-use Rattle.sums.proofs.Laws.{total-step, total-last, total-none}
+use Rattle.sums.specs.Rfc1071.{total, fold}
+use Rattle.sums.proofs.Laws.{fold-word}
 use Rattle.sums.proofs.words_total.Statement.{statement}
 use Rattle.sums.proofs.words_total.Tie as tie
 
 abbrev Inv-loop : tie.InvT-loop
-Inv-loop piece sum₀ i₀ sum i = (i ≤ length piece) × (sum + total (drop i piece) ≡ total piece) × (sum * 2 ≤ 65535 * i)
+Inv-loop piece sum₀ i₀ sum i = (i ≤ length piece) × (fold (sum * 256 + total (drop i piece)) ≡ fold (total piece)) × (sum * 2 ≤ 65535 * i)
 
 abbrev μ-loop : tie.MeasureT-loop
 μ-loop piece sum₀ i₀ sum i = length piece - i
 
 loop-holds : tie.Need-loop-holds Inv-loop μ-loop
-loop-holds c = search needs
+loop-holds c = (omega arith, ap fold (omega arith), omega arith)
 
 add-loop : tie.Need-add-loop Inv-loop μ-loop
 add-loop c = search needs
 
-shared-slice-read-word : tie.Need-shared-slice-read-word Inv-loop μ-loop
-shared-slice-read-word c = search needs
-
-add-word : tie.Need-add-word Inv-loop μ-loop
-add-word c = search needs
-
-shared-slice-read-word-2 : tie.Need-shared-slice-read-word-2 Inv-loop μ-loop
-shared-slice-read-word-2 c = search needs
-
-word-requires : tie.Need-word-requires Inv-loop μ-loop
-word-requires c κs = search needs
+word-at-requires : tie.Need-word-at-requires Inv-loop μ-loop
+word-at-requires c κs = search needs
 
 add-sum : tie.Need-add-sum Inv-loop μ-loop
 add-sum c = search needs
+
+add-word-at : tie.Need-add-word-at Inv-loop μ-loop
+add-word-at c = search needs
+
+word-at-requires-2 : tie.Need-word-at-requires-2 Inv-loop μ-loop
+word-at-requires-2 c κs = search needs
+
+add-sum-2 : tie.Need-add-sum-2 Inv-loop μ-loop
+add-sum-2 c = search needs
 
 add-i : tie.Need-add-i Inv-loop μ-loop
 add-i c = search needs
@@ -44,24 +44,47 @@ loop-less c = search needs
 
 loop-again : tie.Need-loop-again Inv-loop μ-loop
 loop-again c =
-    omega (arith, total-step (c .before .before .before .before .before .before .args .piece .now) (c .before .before .before .before .loop .i) (omega arith))
+    let l = c .before .before .before .loop in
+    let s = c .before .before .before .before .before .args .piece .now in (
+      omega arith,
+      fold-word s (l .i + 2) (l .i + 4) (l .sum + c .before .word-at .result) (omega arith) (omega arith) (c .word-at2 .ensures .0)
+          ∙ fold-word s (l .i) (l .i + 2) (l .sum) (omega arith) (omega arith) (c .before .word-at .ensures .0)
+          ∙ l .inv .1,
+      omega arith,
+    )
 
-shared-slice-read-word-3 : tie.Need-shared-slice-read-word-3 Inv-loop μ-loop
-shared-slice-read-word-3 c = search needs
+add-if1 : tie.Need-add-if1 Inv-loop μ-loop
+add-if1 c = search needs
 
-word-requires-2 : tie.Need-word-requires-2 Inv-loop μ-loop
-word-requires-2 c κs = search needs
+word-at-requires-3 : tie.Need-word-at-requires-3 Inv-loop μ-loop
+word-at-requires-3 c κs = search needs
 
 add-result : tie.Need-add-result Inv-loop μ-loop
 add-result c = search needs
 
+add-odd-byte : tie.Need-add-odd-byte Inv-loop μ-loop
+add-odd-byte c = search needs
+
+odd-byte-requires : tie.Need-odd-byte-requires Inv-loop μ-loop
+odd-byte-requires c κs = search needs
+
+add-result-2 : tie.Need-add-result-2 Inv-loop μ-loop
+add-result-2 c = search needs
+
 returns : tie.Need-returns Inv-loop μ-loop
 returns c =
-    omega (arith, total-last (c .before .before .before .before .before .before .args .piece .now) (c .before .before .before .before .loop .i) (omega arith))
+    let l = c .before .before .before .before .loop in
+    let s = c .before .before .before .before .before .before .args .piece .now in
+    (ap fold (omega arith) ∙ fold-word s (l .i) (l .i + 2) (l .sum) (omega arith) (omega arith) (c .before .word-at3 .ensures .0) ∙ l .inv .1, omega arith)
+
+odd-byte-requires-2 : tie.Need-odd-byte-requires-2 Inv-loop μ-loop
+odd-byte-requires-2 c κs = search needs
+
+add-result-3 : tie.Need-add-result-3 Inv-loop μ-loop
+add-result-3 c = search needs
 
 returns-2 : tie.Need-returns-2 Inv-loop μ-loop
-returns-2 c =
-    omega (arith, total-none (c .before .before .before .before .args .piece .now) (c .before .before .loop .i) (omega arith))
+returns-2 c = (ap fold (omega arith) ∙ c .before .before .before .loop .inv .1, omega arith)
 
 pub words-total-spec : {M : Type 1} → statement M
 words-total-spec =
@@ -71,16 +94,21 @@ words-total-spec =
     μ-loop
     loop-holds
     add-loop
-    shared-slice-read-word
-    add-word
-    shared-slice-read-word-2
-    word-requires
+    word-at-requires
     add-sum
+    add-word-at
+    word-at-requires-2
+    add-sum-2
     add-i
     loop-less
     loop-again
-    shared-slice-read-word-3
-    word-requires-2
+    add-if1
+    word-at-requires-3
     add-result
+    add-odd-byte
+    odd-byte-requires
+    add-result-2
     returns
+    odd-byte-requires-2
+    add-result-3
     returns-2)

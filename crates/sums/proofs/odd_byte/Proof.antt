@@ -1,0 +1,25 @@
+-- `odd_byte` meets its contract: of a byte or of nothing the sum is 256 times the word.
+use native.Mathlib.Omega.{arith}
+use borrow.Author.Needs.{needs}
+use Rattle.sums.proofs.Laws.{total-last, total-none}
+use Rattle.sums.proofs.odd_byte.Statement.{statement}
+use Rattle.sums.proofs.odd_byte.Tie as tie
+
+shared-slice-read-word : tie.Need-shared-slice-read-word
+shared-slice-read-word c = search needs
+
+word-requires : tie.Need-word-requires
+word-requires c κs = search needs
+
+returns : tie.Need-returns
+returns c =
+    let a = c .before .before .before .before .args in
+    omega (arith, total-last (a .piece .now) (a .i) (omega arith))
+
+returns-2 : tie.Need-returns-2
+returns-2 c =
+    let a = c .before .before .args in
+    omega (arith, total-none (a .piece .now) (a .i) (omega arith))
+
+pub odd-byte-spec : {M : Type 1} → statement M
+odd-byte-spec = tie.close (tie.spec shared-slice-read-word word-requires returns returns-2)
