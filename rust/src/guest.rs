@@ -36,8 +36,8 @@ impl Guest {
 
     /// What a frame of this guest gets. A reply is written into `reply`; what is handed on stays in the frame.
     ///
-    /// The frame may have any length and the buffer any size. A buffer of `frame.len() + 16` bytes, and of 342 at least, has
-    /// room for every reply.
+    /// The frame may have any length and the buffer any size. A buffer of 65,549 bytes has room for every reply, and so has one
+    /// of `frame.len() + 16` bytes, and 342 at least: that is proved.
     ///
     /// ```
     /// use yavoledu::{Guest, Verdict, make_udp_payload};
