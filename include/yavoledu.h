@@ -11,7 +11,7 @@
  * Numbers are the machine's own, ports, sequence numbers, ids and checksums too: do not call htons. Addresses and MACs
  * are bytes in the order of the wire.
  *
- * The number that every call but yavoledu_read answers is document 01's, and so are its values:
+ * The number that every call but yavoledu_read answers is document 01's (the customer's), and so are its values:
  *
  *   number              values[0]              values[1]    changed, besides values
  *   0 drop              0                      0            at most the xid
@@ -51,7 +51,7 @@ enum {
 typedef struct {
     uint8_t mac[6];
     uint16_t id;  /* of the next IPv4 frame built for the guest */
-    uint32_t xid; /* of the last DHCP message that was looked into, but for one that got 5 or 7 */
+    uint32_t xid; /* of the last DHCP message that was looked into: 240 bytes or more, first byte 1, not refused */
 } yavoledu_guest;
 
 #if defined(__cplusplus) && __cplusplus >= 201103L

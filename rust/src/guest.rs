@@ -18,7 +18,8 @@ pub struct Guest {
     pub mac: [u8; 6],
     /// The id of the next IPv4 frame that is built for the guest. It goes from 65,535 to 0.
     pub id: u16,
-    /// The xid of the guest's last DHCP message; the message's first byte of it is the highest.
+    /// The xid of the last DHCP message that was looked into: 240 bytes or more, its first byte 1, and not refused. Its first
+    /// byte in the message is the highest.
     pub xid: u32,
 }
 

@@ -134,6 +134,8 @@ pub enum Reading {
 ///
 /// The gateway doesn't use the reader: it answers many a frame that is outside the grammar, such as a padded ARP request.
 ///
+/// A DHCP message of many options takes stack, at most 40 kB; every other call of this crate takes less than 1 kB.
+///
 /// ```
 /// use yavoledu::{Guest, Reading, make_udp_payload, read};
 ///
