@@ -1,0 +1,133 @@
+//! include/yavoledu.h for Rust. The library is a table of functions, so that another can take its place.
+
+/// The record that the host keeps for each guest.
+#[repr(C)]
+#[derive(Clone, Copy, Debug, PartialEq)]
+pub struct Guest {
+    pub mac: [u8; 6],
+    pub id: u16,
+    pub xid: u32,
+}
+
+pub const DROP: u32 = 0;
+pub const REPLY: u32 = 1;
+pub const DNS: u32 = 2;
+pub const RELAY: u32 = 3;
+pub const TCP: u32 = 4;
+pub const NO_ROOM: u32 = 5;
+pub const TOO_LONG: u32 = 6;
+pub const CUT_TYPE: u32 = 7;
+pub const OUTSIDE: u32 = 8;
+
+pub type Values = [usize; 2];
+pub type Parts = [usize; 13];
+
+pub struct Library {
+    pub send:
+        unsafe extern "C" fn(*mut Guest, *const u8, usize, *mut u8, usize, *mut Values) -> u32,
+    pub make_ip_frame: unsafe extern "C" fn(
+        *mut u16,
+        *const u8,
+        *const u8,
+        *const u8,
+        u8,
+        *const u8,
+        usize,
+        *mut u8,
+        usize,
+        *mut Values,
+    ) -> u32,
+    pub make_udp_payload:
+        unsafe extern "C" fn(u16, u16, *const u8, usize, *mut u8, usize, *mut Values) -> u32,
+    pub make_tcp_frame: unsafe extern "C" fn(
+        *mut u16,
+        *const u8,
+        *const u8,
+        u16,
+        *const u8,
+        u16,
+        u32,
+        u32,
+        u8,
+        *const u8,
+        usize,
+        *mut u8,
+        usize,
+        *mut Values,
+    ) -> u32,
+    pub checksum: unsafe extern "C" fn(*const u8, usize) -> u16,
+    pub read: unsafe extern "C" fn(*const u8, usize, *mut Parts) -> u32,
+}
+
+/// The table of the functions whose names start with this.
+#[macro_export]
+macro_rules! library {
+    ($prefix:literal) => {{
+        unsafe extern "C" {
+            #[link_name = concat!($prefix, "yavoledu_send")]
+            fn send(
+                guest: *mut Guest,
+                frame: *const u8,
+                frame_len: usize,
+                reply: *mut u8,
+                reply_len: usize,
+                values: *mut Values,
+            ) -> u32;
+            #[link_name = concat!($prefix, "yavoledu_make_ip_frame")]
+            fn make_ip_frame(
+                id: *mut u16,
+                dst_mac: *const u8,
+                src_ip: *const u8,
+                dst_ip: *const u8,
+                proto: u8,
+                payload: *const u8,
+                payload_len: usize,
+                out: *mut u8,
+                out_len: usize,
+                values: *mut Values,
+            ) -> u32;
+            #[link_name = concat!($prefix, "yavoledu_make_udp_payload")]
+            fn make_udp_payload(
+                src_port: u16,
+                dst_port: u16,
+                data: *const u8,
+                data_len: usize,
+                out: *mut u8,
+                out_len: usize,
+                values: *mut Values,
+            ) -> u32;
+            #[link_name = concat!($prefix, "yavoledu_make_tcp_frame")]
+            fn make_tcp_frame(
+                id: *mut u16,
+                dst_mac: *const u8,
+                src_ip: *const u8,
+                src_port: u16,
+                dst_ip: *const u8,
+                dst_port: u16,
+                seq: u32,
+                ack: u32,
+                flags: u8,
+                data: *const u8,
+                data_len: usize,
+                out: *mut u8,
+                out_len: usize,
+                values: *mut Values,
+            ) -> u32;
+            #[link_name = concat!($prefix, "yavoledu_checksum")]
+            fn checksum(data: *const u8, data_len: usize) -> u16;
+            #[link_name = concat!($prefix, "yavoledu_read")]
+            fn read(frame: *const u8, frame_len: usize, parts: *mut Parts) -> u32;
+        }
+        Library {
+            send,
+            make_ip_frame,
+            make_udp_payload,
+            make_tcp_frame,
+            checksum,
+            read,
+        }
+    }};
+}
+
+/// As it ships.
+pub const SHIPPED: Library = library!("");
