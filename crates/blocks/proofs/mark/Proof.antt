@@ -1,0 +1,128 @@
+-- `mark` meets its contract. The invariant: the blocks before `at` are marked, and no other bit is changed.
+use borrow.Author.Needs.{needs}
+use Prim.Native.Nat.{ℕ, _+_, _-_, _*_, _/_, _%_, _^_, _≤_}
+use mathlib.Core.Path.{_≡_, refl, sym, ap, _∙_}
+use native.Mathlib.Nat.{le-refl}
+use borrow.Author.Tests.{leb-true, le-leb, not-true, not-false}
+use native.Mathlib.Omega.{arith}
+use lib.Bits.{bitOr}
+use lib.ListN.{length, getD, set, length-set}
+use lib.Pow.{shl-exact, ones-lt}
+use Rattle.blocks.specs.Bitmap.{bit, having}
+use Rattle.blocks.proofs.Digits.{run}
+use Rattle.blocks.proofs.Runs.{having-none, marked-to, run-to}
+use Rattle.blocks.proofs.mark.Statement.{statement}
+use Rattle.blocks.proofs.mark.Tie as tie
+
+abbrev Inv-loop : tie.InvT-loop
+Inv-loop bits₀ first stop at₀ bits at =
+    ((b : ℕ) → bit bits b ≡ having (bit bits₀) first at b)
+    × (length bits ≡ length bits₀) × (first ≤ at) × (at ≤ stop + (first - stop)) × (stop ≤ length bits₀ * 64)
+
+abbrev μ-loop : tie.MeasureT-loop
+μ-loop bits₀ first stop at₀ bits at = stop - at
+
+reaches-requires : tie.Need-reaches-requires Inv-loop μ-loop
+reaches-requires c κs = search needs
+
+returns : tie.Need-returns Inv-loop μ-loop
+returns c =
+    record {
+      bits = λ b. simp (sym (c .before .reaches .ensures), not-true (c .before .reaches .result) (c .if1 .taken));
+      words = refl;
+    }
+
+loop-holds : tie.Need-loop-holds Inv-loop μ-loop
+loop-holds c =
+    let a = c .before .before .before .args in (
+      λ b. sym (having-none (bit (a .bits .now)) (a .first) (a .first) b (le-refl (a .first))),
+      refl,
+      omega arith,
+      omega arith,
+      leb-true (a .stop) (length (a .bits .now) * 64) (sym (c .before .reaches .ensures) ∙ not-false (c .before .reaches .result) (c .if1 .left)),
+    )
+
+sub-within : tie.Need-sub-within Inv-loop μ-loop
+sub-within c = search needs
+
+within-requires : tie.Need-within-requires Inv-loop μ-loop
+within-requires c κs = search needs
+
+mul-bits : tie.Need-mul-bits Inv-loop μ-loop
+mul-bits c = search needs
+
+slice-read-bits : tie.Need-slice-read-bits Inv-loop μ-loop
+slice-read-bits c = omega arith
+
+lowest-requires : tie.Need-lowest-requires Inv-loop μ-loop
+lowest-requires c κs = search needs
+
+shl-bits : tie.Need-shl-bits Inv-loop μ-loop
+shl-bits c = search needs
+
+mul-bits-2 : tie.Need-mul-bits-2 Inv-loop μ-loop
+mul-bits-2 c = search needs
+
+slice-write-bits : tie.Need-slice-write-bits Inv-loop μ-loop
+slice-write-bits c = omega arith
+
+add-at : tie.Need-add-at Inv-loop μ-loop
+add-at c = search needs
+
+loop-less : tie.Need-loop-less Inv-loop μ-loop
+loop-less c = search needs
+
+loop-again : tie.Need-loop-again Inv-loop μ-loop
+loop-again c =
+    let a = c .before .before .before .before .before .before .before .before .args in
+    let l = c .before .before .before .before .loop in
+    let n = c .before .before .within .result in
+    let shifted : (c .lowest .result * 2 ^ (l .at % 64)) % 2 ^ 64 ≡ run (l .at % 64) n =
+    ap (λ (m : ℕ). (m * 2 ^ (l .at % 64)) % 2 ^ 64) (c .lowest .ensures) ∙ shl-exact n (l .at % 64) 64 (ones-lt n) (omega arith) in (
+      λ b.
+          ap (λ (m : ℕ). bit (set (l .bits) (l .at / 64) (bitOr (getD (l .bits) (l .at / 64) 0) m)) b) shifted
+          ∙ marked-to (bit (a .bits .now)) (l .bits) (a .first) (l .at) n (omega arith) (l .inv .2) (omega arith) (l .inv .0) b,
+      length-set (l .bits) (l .at / 64) (bitOr (getD (l .bits) (l .at / 64) 0) ((c .lowest .result * 2 ^ (l .at % 64)) % 2 ^ 64)) ∙ l .inv .1,
+      omega arith,
+      omega arith,
+      l .inv .4,
+    )
+
+same-length : tie.Need-same-length Inv-loop μ-loop
+same-length c = search needs
+
+returns-2 : tie.Need-returns-2 Inv-loop μ-loop
+returns-2 c =
+    let a = c .before .before .before .before .before .args in
+    let l = c .before .loop in
+    record {
+      bits =
+          λ b.
+          l .inv .0 b
+          ∙ run-to (bit (a .bits .now)) (a .first) (l .at) (a .stop) b (c .loop-test .left) (l .inv .2) (l .inv .3)
+          ∙ simp (le-leb (a .stop) (length (a .bits .now) * 64) (l .inv .4));
+      words = l .inv .1;
+    }
+
+pub mark-spec : {M : Type 1} → statement M
+mark-spec =
+    tie.close
+    (tie.spec
+    Inv-loop
+    μ-loop
+    reaches-requires
+    returns
+    loop-holds
+    sub-within
+    within-requires
+    mul-bits
+    slice-read-bits
+    lowest-requires
+    shl-bits
+    mul-bits-2
+    slice-write-bits
+    add-at
+    loop-less
+    loop-again
+    same-length
+    returns-2)
