@@ -1,7 +1,6 @@
 -- The blocks of a bitmap, run by run: counting them word by word, and which are there once a run is marked.
 use Prim.Native.Nat.{ℕ, zero, suc, _+_, _-_, _*_, _/_, _%_, _^_, _≤_, _<_}
 use mathlib.Core.Bool.{Bool, true, false, _&&_}
-use mathlib.Core.Logic.{_⊎_, inl, inr}
 use mathlib.Core.List.{List}
 use mathlib.Core.Path.{_≡_, refl, sym, ap, ap₂, _∙_}
 use native.Mathlib.Nat.{add-assoc, zero-add, add-zero, suc-add, not-le-of-lt, lt-of-le-of-lt}

@@ -1,7 +1,7 @@
 -- `count` meets its contract. The invariant: what is found, and what is left to count, are the whole.
 use borrow.Author.Needs.{needs}
 use Prim.Native.Nat.{ℕ, _+_, _-_, _/_, _%_, _^_, _≤_}
-use mathlib.Core.Path.{_≡_, sym, ap, ap₂, _∙_}
+use mathlib.Core.Path.{_≡_, ap, _∙_}
 use native.Mathlib.Omega.{arith}
 use lib.Count.{onesIn}
 use Rattle.blocks.specs.Bitmap.{bit, count}

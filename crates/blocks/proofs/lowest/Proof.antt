@@ -1,6 +1,6 @@
 -- `lowest` meets its contract: 64 ones less the highest leave `n`.
 use Prim.Native.Nat.{ℕ, _-_, _/_, _^_}
-use mathlib.Core.Path.{_≡_, ap, _∙_}
+use mathlib.Core.Path.{ap, _∙_}
 use native.Mathlib.Omega.{arith}
 use lib.Pow.{ones-split, ones-lt, high}
 use borrow.Author.Needs.{needs}

@@ -1,0 +1,4 @@
+pub mod Fitting
+pub mod Ruled
+pub mod Slices
+pub mod Storing

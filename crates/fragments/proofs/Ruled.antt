@@ -1,0 +1,46 @@
+-- What is to be stored is a fit fragment, in a store of the right size: every other way through the rules ends in another ruling.
+use Prim.Native.Nat.{ℕ}
+use mathlib.Core.Bool.{Bool, true, false, not}
+use mathlib.Core.List.{List}
+use mathlib.Core.Path.{_≡_, refl, ap}
+use native.Mathlib.Omega.{arith}
+use borrow.Author.Tests.{not-false}
+use lib.ListN.{length}
+use Rattle.blocks.specs.Bitmap.{bit}
+use Rattle.frames.specs.Pick.{pick}
+use Rattle.fragments.specs.Rfc791.{packetOf}
+use Rattle.fragments.specs.Rules.{ofSize, isHeld, overlaps, wrongEnd, knownEnd, endWith, partRuling, packetRuling, ruling}
+use Rattle.fragments.specs.declared.answer.Answer.{Answer}
+use Rattle.fragments.specs.declared.answer.End.{End}
+use Rattle.fragments.specs.declared.answer.State.{State}
+use Rattle.fragments.specs.declared.packet.Fragment.{Fragment}
+use Rattle.fragments.specs.declared.packet.Packet.{Packet}
+use Rattle.fragments.specs.declared.packet.Packet.the-variants.{Unfit, Whole, Part}
+use Rattle.fragments.specs.declared.ruling.Ruling.{Ruling}
+use Rattle.fragments.specs.declared.ruling.Ruling.the-variants.{Refuse, Store}
+
+-- a test that would have refused has failed
+past-refusal : (t : Bool) (answer : Answer) (r : Ruling) (f : Fragment) (end : End) → pick t (Refuse answer) r ≡ Store f end → (t ≡ false) × (r ≡ Store f end)
+past-refusal true answer r f end e = let z : _≡_ {A = ℕ} 0 1 = cc in absurd (omega arith)
+past-refusal false answer r f end e = (refl, e)
+
+part-stored : (state : State) (there : ℕ → ℕ) (g f : Fragment) (end : End) → partRuling state there g ≡ Store f end → g ≡ f
+unfolding partRuling
+part-stored state there g f end e =
+    let one = past-refusal (isHeld state (g .datagram)) _ _ f end e .1 in
+    let two = past-refusal (overlaps g there) _ _ f end one .1 in
+    let three : Store g (endWith g (knownEnd state)) ≡ Store f end = past-refusal (wrongEnd g (knownEnd state) there) _ _ f end two .1 in
+    cc
+
+packet-stored : (state : State) (there : ℕ → ℕ) (p : Packet) (f : Fragment) (end : End) → packetRuling state there p ≡ Store f end → p ≡ Part f
+unfolding packetRuling
+packet-stored state there Unfit f end e = let z : _≡_ {A = ℕ} 0 1 = cc in absurd (omega arith)
+packet-stored state there (Whole start length) f end e = let z : _≡_ {A = ℕ} 0 1 = cc in absurd (omega arith)
+packet-stored state there (Part g) f end e = ap Part (part-stored state there g f end e)
+
+pub stored : (state : State) (frame : List ℕ) (n : ℕ) (words : List ℕ) (f : Fragment) (end : End) → ruling state frame n words ≡ Store f end
+    → (ofSize n (length words) ≡ true) × (packetOf frame ≡ Part f)
+unfolding ruling
+stored state frame n words f end e =
+    let one = past-refusal (not (ofSize n (length words))) _ _ f end e in
+    (not-false _ (one .0), packet-stored state (bit words) (packetOf frame) f end (one .1))

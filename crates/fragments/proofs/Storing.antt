@@ -1,0 +1,43 @@
+-- A fragment that fits is stored whole: its payload is copied, its blocks are marked, and the answer goes by the blocks that are there then.
+use Prim.Native.Nat.{ℕ, _+_, _-_, _*_, _≤_}
+use mathlib.Core.Bool.{Bool, true, and-eq-true-iff}
+use mathlib.Core.List.{List}
+use mathlib.Core.Path.{_≡_, ap, fun-ext, _∙_}
+use native.Mathlib.Omega.{arith}
+use borrow.Author.Tests.{eqb-true, le-leb}
+use lib.Dec.{eqb}
+use lib.ListN.{length, take, drop, length-drop}
+use lib.Seq.{length-take-le}
+use Rattle.blocks.specs.Bitmap.{bit, having, Marked}
+use Rattle.fields.specs.Bytes.{part}
+use Rattle.frames.specs.Buffer.{put, putIfFits}
+use Rattle.frames.specs.Pick.{pick}
+use Rattle.fragments.specs.Rules.{ofSize, blocksOf, endOf, firstBlock, stopBlock}
+use Rattle.fragments.specs.declared.packet.Fragment.{Fragment}
+
+-- a store of the right size
+pub of-size : (bytes words : ℕ) → ofSize bytes words ≡ true → (bytes ≡ 65515) × (words ≡ 128)
+unfolding ofSize
+of-size bytes words e =
+    let both = and-eq-true-iff (eqb bytes 65515) (eqb words 128) .0 e in
+    (eqb-true bytes 65515 (both .0), eqb-true words 128 (both .1))
+
+-- the payload as code takes it out of the frame, copied to its place
+pub copied : (f : Fragment) (frame bytes : List ℕ) → f .start + f .length ≤ length frame → endOf f ≤ 65515 → length bytes ≡ 65515
+    → putIfFits (f .offset) (take (f .start + f .length - f .start) (drop (f .start) frame)) bytes ≡ put (f .offset) (part frame (f .start) (f .length)) bytes
+unfolding putIfFits
+copied f frame bytes inside short size =
+    let payload = part frame (f .start) (f .length) in
+    let long : length payload ≡ f .length = length-take-le (f .length) (drop (f .start) frame) (omega (arith, length-drop (f .start) frame)) in
+    ap (λ (n : ℕ). putIfFits (f .offset) (take n (drop (f .start) frame)) bytes) {x = f .start + f .length - f .start} {y = f .length} (omega arith)
+    ∙ ap (λ (t : Bool). pick t (put (f .offset) payload bytes) bytes) (le-leb (f .offset + length payload) (length bytes) (omega (arith, long)))
+
+-- the blocks that are there once the fragment's are marked
+pub marked : (f : Fragment) (words words′ : List ℕ) → endOf f ≤ 65515 → length words ≡ 128 → Marked (firstBlock f) (stopBlock f) words words′
+    → bit words′ ≡ having (bit words) (firstBlock f) (stopBlock f)
+unfolding blocksOf
+marked f words words′ short size m =
+    fun-ext (λ b.
+    m .bits b
+    ∙ ap (λ (t : Bool). pick t (having (bit words) (firstBlock f) (stopBlock f) b) (bit words b))
+    (le-leb (stopBlock f) (length words * 64) (omega (arith, short, size))))

@@ -1,0 +1,63 @@
+-- `has_wrong_end` meets its contract, by what is known of the end.
+use Prim.Native.Nat.{ℕ, _-_, _*_}
+use mathlib.Core.Bool.{not}
+use mathlib.Core.Path.{ap, _∙_}
+use borrow.Author.Tests.{not-true, not-false}
+use lib.Dec.{eqb}
+use Rattle.blocks.specs.Bitmap.{bit, count}
+use Rattle.fragments.specs.Rules.{wrongEnd}
+use borrow.Author.Needs.{needs}
+use Rattle.fragments.proofs.ruling.has_wrong_end.Statement.{statement}
+use Rattle.fragments.proofs.ruling.has_wrong_end.Tie as tie
+
+add-stop : tie.Need-add-stop
+add-stop c = search needs
+
+enum-known-end : tie.Need-enum-known-end
+enum-known-end c = search needs
+
+returns : tie.Need-returns
+unfolding wrongEnd
+returns c = rw (c .before .before .end .given .1) (simp (c .if1 .taken))
+
+cast-result : tie.Need-cast-result
+cast-result c = search needs
+
+enum-told : tie.Need-enum-told
+enum-told c = search needs
+
+returns-2 : tie.Need-returns-2
+unfolding wrongEnd
+returns-2 c = rw (c .before .before .enum-told .given .1) (simp (not-true (c .before .before .before .before .before .before .args .fragment .last) (c .if2 .taken)))
+
+blocks-of-requires : tie.Need-blocks-of-requires
+blocks-of-requires c κs = search needs
+
+count-requires : tie.Need-count-requires
+count-requires c κs = search needs
+
+returns-3 : tie.Need-returns-3
+unfolding wrongEnd
+returns-3 c = rw (c .before .before .end .given .1) (simp (c .if1 .left))
+
+returns-4 : tie.Need-returns-4
+unfolding wrongEnd
+returns-4 c =
+    let a = c .before .before .before .before .before .before .before .before .args in
+    rw (c .before .before .before .before .enum-told .given .1, not-false (a .fragment .last) (c .before .before .if2 .left))
+    (ap (λ (n : ℕ). not (eqb n 0)) (c .count .ensures ∙ ap (λ (n : ℕ). count (bit (a .bits .now)) n (128 * 64 - n)) (c .before .blocks-of .ensures)))
+
+pub has-wrong-end-spec : {M : Type 1} → statement M
+has-wrong-end-spec =
+    tie.close
+    (tie.spec
+    add-stop
+    enum-known-end
+    returns
+    cast-result
+    enum-told
+    returns-2
+    blocks-of-requires
+    count-requires
+    returns-3
+    returns-4)

@@ -1,0 +1,36 @@
+-- `is_held` meets its contract, state by state.
+use mathlib.Core.Bool.{not}
+use mathlib.Core.Path.{ap, refl}
+use Rattle.fragments.specs.Rules.{isHeld}
+use borrow.Author.Needs.{needs}
+use Rattle.fragments.proofs.ruling.is_held.Statement.{statement}
+use Rattle.fragments.proofs.ruling.is_held.Tie as tie
+
+enum-told : tie.Need-enum-told
+enum-told c = search needs
+
+enum-known-state : tie.Need-enum-known-state
+enum-known-state c = search needs
+
+is-same-requires : tie.Need-is-same-requires
+is-same-requires c κs = search needs
+
+enum-told-2 : tie.Need-enum-told-2
+enum-told-2 c = search needs
+
+returns : tie.Need-returns
+unfolding isHeld
+returns c = rw (c .enum-told .given .1) refl
+
+returns-2 : tie.Need-returns-2
+unfolding isHeld
+returns-2 c = rw (c .before .before .state .given .1) (ap not (c .is-same .ensures))
+
+returns-3 : tie.Need-returns-3
+unfolding isHeld
+returns-3 c = rw (c .enum-told2 .given .1) refl
+
+pub is-held-spec : {M : Type 1} → statement M
+is-held-spec =
+    tie.close
+    (tie.spec enum-told enum-known-state is-same-requires enum-told-2 returns returns-2 returns-3)

@@ -1,0 +1,74 @@
+-- `of_frame` meets its contract, by what the frame is.
+use Prim.Native.Nat.{ℕ, _+_, _-_}
+use mathlib.Core.Path.{refl, sym, ap, _∙_}
+use native.Mathlib.Omega.{arith}
+use lib.ListN.{take, drop}
+use Rattle.fragments.specs.Promises.{wholePayload}
+use borrow.Author.Needs.{needs}
+use Rattle.fragments.proofs.Fitting.{whole-fits}
+use Rattle.fragments.proofs.store.of_frame.Statement.{statement}
+use Rattle.fragments.proofs.store.of_frame.Tie as tie
+
+read-requires : tie.Need-read-requires
+read-requires c κs = search needs
+
+enum-known-packet : tie.Need-enum-known-packet
+enum-known-packet c = search needs
+
+add-stop : tie.Need-add-stop
+add-stop c = let fits = whole-fits (c .before .before .before .before .before .args .frame .now) (c .before .packet .given .0 .0) (c .before .packet .given .0 .1 .0) (sym (c .before .before .before .read .ensures) ∙ c .before .packet .given .1) in search needs
+
+sub-result : tie.Need-sub-result
+sub-result c = search needs
+
+part-result-start : tie.Need-part-result-start
+part-result-start c = search needs
+
+part-result-end : tie.Need-part-result-end
+part-result-end c = let fits = whole-fits (c .before .before .before .before .before .args .frame .now) (c .before .packet .given .0 .0) (c .before .packet .given .0 .1 .0) (sym (c .before .before .before .read .ensures) ∙ c .before .packet .given .1) in search needs
+
+enum-told : tie.Need-enum-told
+enum-told c = search needs
+
+slice-aggregate-result : tie.Need-slice-aggregate-result
+slice-aggregate-result c = search needs
+
+enum-told-2 : tie.Need-enum-told-2
+enum-told-2 c = search needs
+
+slice-aggregate-result-2 : tie.Need-slice-aggregate-result-2
+slice-aggregate-result-2 c = search needs
+
+returns : tie.Need-returns
+unfolding wholePayload
+returns c = rw (sym (c .before .before .before .before .read .ensures) ∙ c .before .before .packet .given .1)
+    (ap (λ (k : ℕ). take k (drop (c .before .before .packet .given .0 .0) (c .before .before .before .before .before .before .args .frame .now)))
+    {x = c .before .before .packet .given .0 .0 + c .before .before .packet .given .0 .1 .0 - c .before .before .packet .given .0 .0}
+    {y = c .before .before .packet .given .0 .1 .0}
+    (omega arith))
+
+returns-2 : tie.Need-returns-2
+unfolding wholePayload
+returns-2 c = rw (sym (c .before .before .before .read .ensures) ∙ c .before .enum-told .given .1) refl
+
+returns-3 : tie.Need-returns-3
+unfolding wholePayload
+returns-3 c = rw (sym (c .before .before .before .read .ensures) ∙ c .before .enum-told2 .given .1) refl
+
+pub of-frame-spec : {M : Type 1} → statement M
+of-frame-spec =
+    tie.close
+    (tie.spec
+    read-requires
+    enum-known-packet
+    add-stop
+    sub-result
+    part-result-start
+    part-result-end
+    enum-told
+    slice-aggregate-result
+    enum-told-2
+    slice-aggregate-result-2
+    returns
+    returns-2
+    returns-3)

@@ -1,0 +1,63 @@
+-- `settle` meets its contract, by what is known of the end.
+use Prim.Native.Nat.{_-_}
+use mathlib.Core.Path.{_≡_, refl, sym, ap, _∙_}
+use native.Mathlib.Omega.{arith}
+use borrow.Author.Tests.{eq-eqb, ne-eqb}
+use Rattle.blocks.specs.Bitmap.{bit, count}
+use Rattle.fragments.specs.Answer.{paper}
+use Rattle.fragments.specs.Rules.{blocksOf, settled}
+use borrow.Author.Needs.{needs}
+use Rattle.fragments.proofs.store.settle.Statement.{statement}
+use Rattle.fragments.proofs.store.settle.Tie as tie
+
+enum-known-end : tie.Need-enum-known-end
+enum-known-end c = search needs
+
+cast-blocks-of : tie.Need-cast-blocks-of
+cast-blocks-of c = search needs
+
+blocks-of-requires : tie.Need-blocks-of-requires
+blocks-of-requires c κs = search needs
+
+count-requires : tie.Need-count-requires
+count-requires c κs = search needs
+
+returns : tie.Need-returns
+unfolding paper settled
+returns c =
+    let a = c .before .before .before .before .before .before .before .args in
+    let there = bit (a .bits .now) in
+    let n = blocksOf (c .before .before .before .before .end .given .0 .0) in
+    let k : count there 0 n ≡ c .before .count .result = ap (count there 0) {x = n} {y = c .before .before .blocks-of .result - 0} (omega (arith, c .before .before .blocks-of .ensures)) ∙ sym (c .before .count .ensures) in
+    let e = eq-eqb (count there 0 n) n (k ∙ c .if1 .taken ∙ c .before .before .blocks-of .ensures) in
+    rw (c .before .before .before .before .end .given .1) (record { answers = simp e; next = simp e })
+
+enum-told : tie.Need-enum-told
+enum-told c = search needs
+
+returns-2 : tie.Need-returns-2
+unfolding paper settled
+returns-2 c =
+    let a = c .before .before .before .before .before .before .before .args in
+    let there = bit (a .bits .now) in
+    let n = blocksOf (c .before .before .before .before .end .given .0 .0) in
+    let k : count there 0 n ≡ c .before .count .result = ap (count there 0) {x = n} {y = c .before .before .blocks-of .result - 0} (omega (arith, c .before .before .blocks-of .ensures)) ∙ sym (c .before .count .ensures) in
+    let e = ne-eqb (count there 0 n) n (λ q. c .if1 .left (sym k ∙ q ∙ sym (c .before .before .blocks-of .ensures))) in
+    rw (c .before .before .before .before .end .given .1) (record { answers = simp e; next = simp e })
+
+returns-3 : tie.Need-returns-3
+unfolding paper settled
+returns-3 c = rw (c .enum-told .given .1) (record { answers = refl; next = refl })
+
+pub settle-spec : {M : Type 1} → statement M
+settle-spec =
+    tie.close
+    (tie.spec
+    enum-known-end
+    cast-blocks-of
+    blocks-of-requires
+    count-requires
+    returns
+    enum-told
+    returns-2
+    returns-3)

@@ -1,0 +1,71 @@
+-- `take` meets its contract: the ruling is carried out.
+use mathlib.Core.Path.{refl, sym, _∙_}
+use lib.ListN.{length}
+use Rattle.fragments.specs.Answer.{paper}
+use Rattle.fragments.specs.Rules.{outcomeOf}
+use Rattle.fragments.proofs.Fitting.{part-fits}
+use Rattle.fragments.proofs.Ruled.{stored}
+use Rattle.fragments.proofs.Storing.{of-size}
+use borrow.Author.Needs.{needs}
+use Rattle.fragments.proofs.store.take.Statement.{statement}
+use Rattle.fragments.proofs.store.take.Tie as tie
+
+rule-requires : tie.Need-rule-requires
+rule-requires c κs = search needs
+
+enum-known-ruling : tie.Need-enum-known-ruling
+enum-known-ruling c = search needs
+
+enum-told : tie.Need-enum-told
+enum-told c = search needs
+
+enum-known-ruling-2 : tie.Need-enum-known-ruling-2
+enum-known-ruling-2 c = search needs
+
+store-requires : tie.Need-store-requires
+store-requires c κs =
+    let a = c .before .before .before .before .before .before .before .before .before .before .args in
+    let to-store = stored (a .state) (a .frame .now) (length (a .bytes .now)) (a .bits .now) (c .before .before .before .ruling2 .given .0 .0) (c .before .before .before .ruling2 .given .0 .1 .0) (sym (c .before .before .before .before .before .rule .ensures) ∙ c .before .before .before .ruling2 .given .1) in
+    let fits = part-fits (a .frame .now) (c .before .before .before .ruling2 .given .0 .0) (to-store .1) in
+    (fits .in-frame, (fits .short, of-size _ _ (to-store .0)))
+
+same-length : tie.Need-same-length
+same-length c = search needs
+
+returns : tie.Need-returns
+unfolding paper outcomeOf
+returns c = rw (sym (c .before .before .before .rule .ensures) ∙ c .before .ruling .given .1) (record { answers = refl; next = refl; store = record { kept-bytes = refl; kept-bits = refl } })
+
+same-length-2 : tie.Need-same-length-2
+same-length-2 c = search needs
+
+returns-2 : tie.Need-returns-2
+unfolding paper outcomeOf
+returns-2 c = rw (sym (c .before .before .rule .ensures) ∙ c .enum-told .given .1) (record { answers = refl; next = refl; store = record { kept-bytes = refl; kept-bits = refl } })
+
+same-length-3 : tie.Need-same-length-3
+same-length-3 c = search needs
+
+same-length-4 : tie.Need-same-length-4
+same-length-4 c = search needs
+
+returns-3 : tie.Need-returns-3
+unfolding outcomeOf
+returns-3 c = rw (sym (c .before .before .before .before .before .before .before .before .before .before .rule .ensures) ∙ c .before .before .before .before .before .before .before .before .ruling2 .given .1) (record { answers = c .before .before .before .before .store .ensures .0 .answers; next = c .before .before .before .before .store .ensures .0 .next; store = c .before .before .before .before .store .ensures .1 })
+
+pub take-spec : {M : Type 1} → statement M
+take-spec =
+    tie.close
+    (tie.spec
+    rule-requires
+    enum-known-ruling
+    enum-told
+    enum-known-ruling-2
+    store-requires
+    same-length
+    returns
+    same-length-2
+    returns-2
+    same-length-3
+    same-length-4
+    returns-3)

@@ -1,0 +1,4 @@
+pub mod Answer
+pub mod Rfc791
+pub mod Rules
+pub mod Promises

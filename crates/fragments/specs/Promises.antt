@@ -1,0 +1,80 @@
+-- What each call on a store promises: the answer, the state, every byte and every bit, for a store of any size, any frame and any state.
+use Prim.Native.Nat.{ℕ}
+use mathlib.Core.Path.{_≡_}
+use mathlib.Core.List.{List, []}
+use lib.Dec.{leb}
+use lib.ListN.{length, take, replicate}
+use Rattle.blocks.specs.Bitmap.{bit, Marked}
+use Rattle.fields.specs.Bytes.{part}
+use Rattle.frames.specs.Buffer.{put}
+use Rattle.frames.specs.Pick.{pick}
+use Rattle.fragments.specs.Answer.{released, refused, paper}
+use Rattle.fragments.specs.Rfc791.{packetOf}
+use Rattle.fragments.specs.Rules.{ofSize, ruling, settled, outcomeOf, firstBlock, stopBlock}
+use Rattle.fragments.specs.declared.answer.Answer.{Answer}
+use Rattle.fragments.specs.declared.answer.Answer.the-variants as Answer
+use Rattle.fragments.specs.declared.answer.Datagram.{Datagram}
+use Rattle.fragments.specs.declared.answer.End.{End}
+use Rattle.fragments.specs.declared.answer.State.{State}
+use Rattle.fragments.specs.declared.answer.State.the-variants.{Empty, Filling, Complete}
+use Rattle.fragments.specs.declared.answer.Taken.{Taken}
+use Rattle.fragments.specs.declared.packet.Packet.{Packet}
+use Rattle.fragments.specs.declared.packet.Packet.the-variants.{Unfit, Whole, Part}
+use Rattle.fragments.specs.declared.ruling.Ruling.{Ruling}
+use Rattle.fragments.specs.declared.ruling.Ruling.the-variants.{Refuse, Pass, Store}
+
+-- the store's bytes and bits are as they were
+pub record Untouched (bytes words bytes′ words′ : List ℕ) : Type 0 where
+  pub kept-bytes : bytes′ ≡ bytes
+  pub kept-bits : words′ ≡ words
+
+-- What a ruling does to the store: nothing, or the fragment's payload stands at its place and its blocks are marked.
+abbrev pub Effect : Ruling → (frame bytes words bytes′ words′ : List ℕ) → Type 0
+Effect (Refuse answer) frame bytes words bytes′ words′ = Untouched bytes words bytes′ words′
+Effect Pass frame bytes words bytes′ words′ = Untouched bytes words bytes′ words′
+Effect (Store f end) frame bytes words bytes′ words′ =
+    (bytes′ ≡ put (f .offset) (part frame (f .start) (f .length)) bytes) × Marked (firstBlock f) (stopBlock f) words words′
+
+-- the answer once blocks are there, and the state
+pub record Settles (datagram : Datagram) (end : End) (there : ℕ → ℕ) (taken : Taken) : Type 0 where
+  pub answers : paper (taken .answer) ≡ settled datagram end there .said
+  pub next : taken .state ≡ settled datagram end there .state
+
+-- A ruling is carried out: what is answered, the state, and the store.
+pub record Does (ruling : Ruling) (state : State) (frame bytes words bytes′ words′ : List ℕ) (taken : Taken) : Type 0 where
+  pub answers : paper (taken .answer) ≡ outcomeOf state (bit words) ruling .said
+  pub next : taken .state ≡ outcomeOf state (bit words) ruling .state
+  pub store : Effect ruling frame bytes words bytes′ words′
+
+-- the call that takes a frame
+abbrev pub Takes : State → (frame bytes words bytes′ words′ : List ℕ) → Taken → Type 0
+Takes state frame bytes words bytes′ words′ taken = Does (ruling state frame (length bytes) words) state frame bytes words bytes′ words′ taken
+
+-- the payload of a whole datagram, in its frame
+unfoldable pub wholePayload : (frame : List ℕ) → Packet → List ℕ
+wholePayload frame (Whole start length) = part frame start length
+wholePayload frame Unfit = []
+wholePayload frame (Part f) = []
+
+-- the payload of a complete one, in the store; a state that tells more bytes than are lent hands out none
+unfoldable pub storedPayload : (bytes : List ℕ) → State → List ℕ
+storedPayload bytes (Complete datagram n) = pick (leb n (length bytes)) (take n bytes) []
+storedPayload bytes Empty = []
+storedPayload bytes (Filling datagram end) = []
+
+-- "the payload handed out is a part of the guest's frame or a part of the store"; other answers hand out none
+unfoldable pub payloadOf : Answer → State → (frame bytes : List ℕ) → List ℕ
+payloadOf Answer.Passed state frame bytes = wholePayload frame (packetOf frame)
+payloadOf Answer.Complete state frame bytes = storedPayload bytes state
+payloadOf Answer.Stored state frame bytes = []
+payloadOf Answer.Released state frame bytes = []
+payloadOf Answer.Unfit state frame bytes = []
+payloadOf Answer.Held state frame bytes = []
+payloadOf Answer.Overlap state frame bytes = []
+payloadOf Answer.WrongEnd state frame bytes = []
+
+-- "a release at any time empties the store for the next, or gets 10 where it is lent at another size": no bit is left
+pub record Releases (state : State) (bytes words words′ : List ℕ) (taken : Taken) : Type 0 where
+  pub answers : paper (taken .answer) ≡ pick (ofSize (length bytes) (length words)) released (refused 10)
+  pub next : taken .state ≡ pick (ofSize (length bytes) (length words)) Empty state
+  pub bits : words′ ≡ pick (ofSize (length bytes) (length words)) (replicate 128 0) words

@@ -1,0 +1,79 @@
+-- Fragments on the wire: RFC 791, section 3.1 (flags and fragment offset) and 3.2 ("Fragmentation and Reassembly"), as document 02 condenses
+-- them (request 4/13).
+use Prim.Native.Nat.{ℕ, _+_, _-_, _*_, _/_, _%_}
+use mathlib.Core.Bool.{Bool, _&&_, _||_, not}
+use mathlib.Core.List.{List}
+use lib.Dec.{eqb, leb}
+use lib.ListN.{length, take}
+use Rattle.sums.specs.Rfc1071.{total, fold}
+use Rattle.fields.specs.Bytes.{u32At}
+use Rattle.fields.specs.Rfc791.{version, headerLength, totalLength, identification, flagsAndOffset, protocolOf}
+use Rattle.fields.specs.Rfc894.{body, typeOf}
+use Rattle.frames.specs.Pick.{pick}
+use Rattle.fragments.specs.declared.answer.Datagram.{Datagram}
+use Rattle.fragments.specs.declared.packet.Fragment.{Fragment}
+use Rattle.fragments.specs.declared.packet.Packet.{Packet}
+use Rattle.fragments.specs.declared.packet.Packet.the-variants.{Unfit, Whole, Part}
+
+-- "Here the IPv4 header has to be sound: version 4, header of 20 or more and within the total length, that within the frame, header sums right."
+unfoldable pub soundHeader : (packet : List ℕ) → Bool
+soundHeader packet =
+    eqb (version packet) 4
+    && (leb 20 (headerLength packet)
+    && (leb (headerLength packet) (totalLength packet)
+    && (leb (totalLength packet) (length packet)
+    && eqb (fold (total (take (headerLength packet) packet))) 65535)))
+
+-- and "a frame under 34 bytes or not of type 0x0800" is none
+unfoldable pub sound : (frame : List ℕ) → Bool
+sound frame = leb 34 (length frame) && (eqb (typeOf frame) 0x0800 && soundHeader (body frame))
+
+-- section 3.1, flags: "Bit 2: (MF) 0 = Last Fragment, 1 = More Fragments"
+unfoldable pub moreFragments : (packet : List ℕ) → Bool
+moreFragments packet = eqb (flagsAndOffset packet / 8192 % 2) 1
+
+-- section 3.1: "The fragment offset is measured in units of 8 octets (64 bits)."
+unfoldable pub fragmentOffset : (packet : List ℕ) → ℕ
+fragmentOffset packet = flagsAndOffset packet % 8192 * 8
+
+-- section 3.2: "If the fragment offset and the more fragments flag are both zero, this is a whole datagram"
+unfoldable pub isWhole : (packet : List ℕ) → Bool
+isWhole packet = not (moreFragments packet) && eqb (fragmentOffset packet) 0
+
+-- "The payload ends at the total length."
+unfoldable pub payloadLength : (packet : List ℕ) → ℕ
+payloadLength packet = totalLength packet - headerLength packet
+
+-- "A fragment that isn't the last has a length that is a non-zero multiple of 8; the last may have any non-zero length."
+unfoldable pub goodLength : (more : Bool) (n : ℕ) → Bool
+goodLength more n = not (eqb n 0) && (not more || eqb (n % 8) 0)
+
+-- section 3.2: a datagram is named by "identification, source, destination, and protocol"
+unfoldable pub datagramOf : (packet : List ℕ) → Datagram
+datagramOf packet =
+    record {
+      source = u32At packet 12;
+      target = u32At packet 16;
+      protocol = protocolOf packet;
+      id = identification packet;
+    }
+
+-- the fragment in a frame: its payload stands from `start` on in the frame, and belongs at `offset` in the datagram's
+unfoldable pub fragmentOf : (packet : List ℕ) → Fragment
+fragmentOf packet =
+    record {
+      datagram = datagramOf packet;
+      start = 14 + headerLength packet;
+      length = payloadLength packet;
+      offset = fragmentOffset packet;
+      last = not (moreFragments packet);
+    }
+
+-- What a frame is: unfit ("unsound header, bad length or payload past 65,515"), a whole datagram, or a part of one.
+unfoldable pub packetOf : (frame : List ℕ) → Packet
+packetOf frame =
+    pick (not (sound frame)) Unfit
+    (pick (isWhole (body frame)) (Whole (14 + headerLength (body frame)) (payloadLength (body frame)))
+    (pick (not (goodLength (moreFragments (body frame)) (payloadLength (body frame)))) Unfit
+    (pick (not (leb (fragmentOffset (body frame) + payloadLength (body frame)) 65515)) Unfit
+    (Part (fragmentOf (body frame))))))

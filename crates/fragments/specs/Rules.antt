@@ -1,0 +1,107 @@
+-- Document 02's rules of the store (request 4/13): the order of refusals, what is stored, and when a datagram is complete.
+use Prim.Native.Nat.{ℕ, _+_, _-_, _*_, _/_}
+use mathlib.Core.Bool.{Bool, true, false, _&&_, _||_, not}
+use mathlib.Core.List.{List}
+use lib.Dec.{eqb, ltb}
+use lib.ListN.{length}
+use Rattle.blocks.specs.Bitmap.{bit, count, having}
+use Rattle.frames.specs.Pick.{pick}
+use Rattle.fragments.specs.Answer.{Said, passed, stored, complete, paper}
+use Rattle.fragments.specs.Rfc791.{packetOf}
+use Rattle.fragments.specs.declared.answer.Answer.{Answer}
+use Rattle.fragments.specs.declared.answer.Answer.the-variants as Answer
+use Rattle.fragments.specs.declared.answer.Datagram.{Datagram}
+use Rattle.fragments.specs.declared.answer.End.{End}
+use Rattle.fragments.specs.declared.answer.End.the-variants.{Unknown, At}
+use Rattle.fragments.specs.declared.answer.State.{State}
+use Rattle.fragments.specs.declared.answer.State.the-variants.{Empty, Filling, Complete}
+use Rattle.fragments.specs.declared.packet.Fragment.{Fragment}
+use Rattle.fragments.specs.declared.packet.Packet.{Packet}
+use Rattle.fragments.specs.declared.packet.Packet.the-variants.{Unfit, Whole, Part}
+use Rattle.fragments.specs.declared.ruling.Ruling.{Ruling}
+use Rattle.fragments.specs.declared.ruling.Ruling.the-variants.{Refuse, Pass, Store}
+
+-- "65,515 payload bytes, and 128 words of 64 bits"
+unfoldable pub ofSize : (bytes words : ℕ) → Bool
+ofSize bytes words = eqb bytes 65515 && eqb words 128
+
+-- how many blocks of eight bytes the first `n` bytes touch
+unfoldable pub blocksOf : (n : ℕ) → ℕ
+blocksOf n = (n + 7) / 8
+
+-- a fragment's first block, the one behind its last, and the place where its bytes end
+abbrev pub firstBlock : Fragment → ℕ
+firstBlock f = f .offset / 8
+
+abbrev pub endOf : Fragment → ℕ
+endOf f = f .offset + f .length
+
+abbrev pub stopBlock : Fragment → ℕ
+stopBlock f = blocksOf (endOf f)
+
+-- "one datagram, named by source, target, protocol and id"
+unfoldable pub sameDatagram : Datagram → Datagram → Bool
+sameDatagram d e = eqb (d .source) (e .source) && (eqb (d .target) (e .target) && (eqb (d .protocol) (e .protocol) && eqb (d .id) (e .id)))
+
+-- 11: "store holds a complete datagram or another one"
+unfoldable pub isHeld : State → Datagram → Bool
+isHeld Empty d = false
+isHeld (Filling held end) d = not (sameDatagram held d)
+isHeld (Complete held length) d = true
+
+-- the end as far as it is known
+unfoldable pub knownEnd : State → End
+knownEnd Empty = Unknown
+knownEnd (Filling held end) = end
+knownEnd (Complete held length) = At length
+
+-- 12: "a block is already there"
+unfoldable pub overlaps : Fragment → (there : ℕ → ℕ) → Bool
+overlaps f there = not (eqb (count there (firstBlock f) (stopBlock f - firstBlock f)) 0)
+
+-- 13: "a second last, a fragment past the known end, or a last that ends at or before a stored block's start"
+unfoldable pub wrongEnd : Fragment → End → (there : ℕ → ℕ) → Bool
+wrongEnd f (At end) there = f .last || ltb end (endOf f)
+wrongEnd f Unknown there = f .last && not (eqb (count there (stopBlock f) (128 * 64 - stopBlock f)) 0)
+
+-- the end once a fragment has come: a last one tells it
+unfoldable pub endWith : Fragment → End → End
+endWith f end = pick (f .last) (At (endOf f)) end
+
+-- what is to be done with a fit fragment: "for fragments only, 11 .. 12 .. 13"
+unfoldable pub partRuling : State → (there : ℕ → ℕ) → Fragment → Ruling
+partRuling state there f =
+    pick (isHeld state (f .datagram)) (Refuse Answer.Held)
+    (pick (overlaps f there) (Refuse Answer.Overlap)
+    (pick (wrongEnd f (knownEnd state) there) (Refuse Answer.WrongEnd)
+    (Store f (endWith f (knownEnd state)))))
+
+-- "A frame with no fragmentation passes by without touching the store"
+unfoldable pub packetRuling : State → (there : ℕ → ℕ) → Packet → Ruling
+packetRuling state there Unfit = Refuse Answer.Unfit
+packetRuling state there (Whole start length) = Pass
+packetRuling state there (Part f) = partRuling state there f
+
+-- "Refusals, in this order .. 10 a store lent at another size, a frame .."
+unfoldable pub ruling : State → (frame : List ℕ) (bytes : ℕ) (words : List ℕ) → Ruling
+ruling state frame bytes words =
+    pick (not (ofSize bytes (length words))) (Refuse Answer.Unfit)
+    (packetRuling state (bit words) (packetOf frame))
+
+-- What is to come of a call: what it says, and the state.
+pub record Outcome : Type 0 where
+  pub said : Said
+  pub state : State
+
+-- "The datagram is complete when the end is known and no block before it is missing, counted from the bits."
+unfoldable pub settled : Datagram → End → (there : ℕ → ℕ) → Outcome
+settled d Unknown there = record { said = stored; state = Filling d Unknown }
+settled d (At end) there =
+    pick (eqb (count there 0 (blocksOf end)) (blocksOf end)) (record { said = complete; state = Complete d end })
+    (record { said = stored; state = Filling d (At end) })
+
+-- what comes of a ruling
+unfoldable pub outcomeOf : State → (there : ℕ → ℕ) → Ruling → Outcome
+outcomeOf state there (Refuse answer) = record { said = paper answer; state = state }
+outcomeOf state there Pass = record { said = passed; state = state }
+outcomeOf state there (Store f end) = settled (f .datagram) end (having there (firstBlock f) (stopBlock f))

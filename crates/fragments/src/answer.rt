@@ -1,0 +1,39 @@
+// What a store holds, beside its bytes and bits, and what a call answers.
+
+// A datagram's name: RFC 791, section 3.2, "the combination of identification, source, destination and protocol".
+pub struct Datagram {
+    pub source: u32,
+    pub target: u32,
+    pub protocol: u8,
+    pub id: u16,
+}
+
+// Where the datagram's payload ends, once its last fragment has come.
+pub enum End {
+    Unknown,
+    At(u16),
+}
+
+pub enum State {
+    Empty,
+    Filling { datagram: Datagram, end: End },
+    Complete { datagram: Datagram, length: u16 },
+}
+
+// The answers of document 02; the last four are its refusals 10 to 13.
+pub enum Answer {
+    Passed,
+    Stored,
+    Complete,
+    Released,
+    Unfit,
+    Held,
+    Overlap,
+    WrongEnd,
+}
+
+// What a call that may change the store answers: the state comes back beside the answer.
+pub struct Taken {
+    pub answer: Answer,
+    pub state: State,
+}

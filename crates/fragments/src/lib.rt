@@ -1,0 +1,17 @@
+// Reassembly of IPv4 fragments: document 02, request 4/13. The host lends a store for each guest, the
+// payload's bytes and a bitmap of the blocks that have come, and hands the small rest in and out by
+// value. No function relies on checks by its caller: a store of any size, a frame of any length and any
+// state get an answer. A refusal leaves bytes, bits and state as they were.
+mod answer;
+mod packet;
+mod ruling;
+mod store;
+
+pub use answer::Answer;
+pub use answer::Datagram;
+pub use answer::End;
+pub use answer::State;
+pub use answer::Taken;
+pub use store::payload;
+pub use store::release;
+pub use store::take;

@@ -1,0 +1,173 @@
+// What is to be done with a frame, by looking alone: document 02's refusals in their order, one test a
+// line. All that changes the store stands in store.rt.
+ghost use mathlib.Core.Path.{_≡_};
+ghost use Prim.Native.Nat.{_≤_, _<_};
+ghost use Rattle.blocks.specs.Bitmap.{bit};
+ghost use Rattle.fragments.specs.Rules.{ruling, partRuling, isHeld, sameDatagram, overlaps, knownEnd, wrongEnd, endWith, endOf, ofSize, blocksOf};
+use crate::answer::Answer;
+use crate::answer::Datagram;
+use crate::answer::End;
+use crate::answer::State;
+use crate::packet::Fragment;
+use crate::packet::Packet;
+use crate::packet::read;
+
+const BYTES: usize = 65515;
+
+const WORDS: usize = 128;
+
+const BLOCKS: usize = 128 * 64;
+
+const BLOCK: usize = 8;
+
+pub enum Ruling {
+    Refuse(Answer),
+    Pass,
+    Store(Fragment, End),
+}
+
+// What is to be done with `frame`, where `bytes` of the store are lent.
+pub fn rule(state: State, frame: &[u8], bytes: usize, bits: &[u64]) -> Ruling
+    ensures { λ r. ⌜ r ≡ ruling state (now (frame .entry)) bytes (now (bits .entry)) ⌝ }
+{
+    if !is_of_size(bytes, bits.len()) {
+        return Ruling::Refuse(Answer::Unfit);
+    }
+    let packet = read(frame);
+    match packet {
+        Packet::Unfit => Ruling::Refuse(Answer::Unfit),
+        Packet::Whole {
+            start: _,
+            length: _,
+        } => Ruling::Pass,
+        Packet::Part(fragment) => rule_part(state, fragment, bits),
+    }
+}
+
+// The same of a fragment that is fit.
+fn rule_part(state: State, fragment: Fragment, bits: &[u64]) -> Ruling
+    requires { ⌜ endOf fragment ≤ 65515 ⌝ }
+    ensures { λ r. ⌜ r ≡ partRuling state (bit (now (bits .entry))) fragment ⌝ }
+{
+    if is_held(state, fragment.datagram) {
+        return Ruling::Refuse(Answer::Held);
+    }
+    if has_block(fragment, bits) {
+        return Ruling::Refuse(Answer::Overlap);
+    }
+    let end = known_end(state);
+    if has_wrong_end(fragment, end, bits) {
+        return Ruling::Refuse(Answer::WrongEnd);
+    }
+    Ruling::Store(fragment, end_with(fragment, end))
+}
+
+// Whether the store is lent at its size.
+pub fn is_of_size(bytes: usize, words: usize) -> bool
+    ensures { λ r. ⌜ r ≡ ofSize bytes words ⌝ }
+{
+    if bytes != BYTES {
+        return false;
+    }
+    words == WORDS
+}
+
+// How many blocks of eight bytes the first `n` bytes touch.
+pub fn blocks_of(n: usize) -> usize
+    requires { ⌜ n < 65536 ⌝ }
+    ensures { λ r. ⌜ r ≡ blocksOf n ⌝ }
+{
+    (n + 7) / BLOCK
+}
+
+// 11: the store holds a complete datagram or another one.
+fn is_held(state: State, datagram: Datagram) -> bool
+    ensures { λ r. ⌜ r ≡ isHeld state datagram ⌝ }
+{
+    match state {
+        State::Empty => false,
+        State::Filling {
+            datagram: held,
+            end: _,
+        } => !is_same(held, datagram),
+        State::Complete {
+            datagram: _,
+            length: _,
+        } => true,
+    }
+}
+
+fn is_same(one: Datagram, other: Datagram) -> bool
+    ensures { λ r. ⌜ r ≡ sameDatagram one other ⌝ }
+{
+    if one.source != other.source {
+        return false;
+    }
+    if one.target != other.target {
+        return false;
+    }
+    if one.protocol != other.protocol {
+        return false;
+    }
+    one.id == other.id
+}
+
+// 12: a block is already there.
+fn has_block(fragment: Fragment, bits: &[u64]) -> bool
+    requires { ⌜ endOf fragment ≤ 65515 ⌝ }
+    ensures { λ r. ⌜ r ≡ overlaps fragment (bit (now (bits .entry))) ⌝ }
+{
+    blocks::count(
+        bits,
+        fragment.offset / BLOCK,
+        blocks_of(fragment.offset + fragment.length),
+    )
+        != 0
+}
+
+// The end, as far as the store knows it.
+fn known_end(state: State) -> End
+    ensures { λ r. ⌜ r ≡ knownEnd state ⌝ }
+{
+    match state {
+        State::Empty => End::Unknown,
+        State::Filling { datagram: _, end } => end,
+        State::Complete {
+            datagram: _,
+            length,
+        } => End::At(length),
+    }
+}
+
+// 13: a second last, a fragment past the known end, or a last that ends at or before a stored block's start.
+fn has_wrong_end(fragment: Fragment, end: End, bits: &[u64]) -> bool
+    requires { ⌜ endOf fragment ≤ 65515 ⌝ }
+    ensures { λ r. ⌜ r ≡ wrongEnd fragment end (bit (now (bits .entry))) ⌝ }
+{
+    let stop = fragment.offset + fragment.length;
+    match end {
+        End::At(known) => {
+            if fragment.last {
+                return true;
+            }
+            (known as usize) < stop
+        }
+        End::Unknown => {
+            if !fragment.last {
+                return false;
+            }
+            blocks::count(bits, blocks_of(stop), BLOCKS) != 0
+        }
+    }
+}
+
+// The end once the fragment is stored: a last one tells it.
+fn end_with(fragment: Fragment, end: End) -> End
+    requires { ⌜ endOf fragment ≤ 65515 ⌝ }
+    ensures { λ r. ⌜ r ≡ endWith fragment end ⌝ }
+{
+    if fragment.last {
+        return End::At((fragment.offset + fragment.length) as u16);
+    }
+    end
+}

@@ -1,0 +1,162 @@
+// The calls on a store: a frame is taken, the payload handed out, the store released.
+ghost use mathlib.Core.Path.{_≡_};
+ghost use Prim.Native.Nat.{_+_, _≤_};
+ghost use mathlib.Core.List.{[]};
+ghost use lib.Dec.{leb};
+ghost use lib.ListN.{length, take};
+ghost use Rattle.frames.specs.Pick.{pick};
+ghost use Rattle.blocks.specs.Bitmap.{bit, having};
+ghost use Rattle.fragments.specs.Rfc791.{packetOf};
+ghost use Rattle.fragments.specs.Rules.{endOf, firstBlock, stopBlock};
+ghost use Rattle.fragments.specs.Promises.{Takes, Effect, Settles, Releases, wholePayload, storedPayload, payloadOf};
+use crate::answer::Answer;
+use crate::answer::Datagram;
+use crate::answer::End;
+use crate::answer::State;
+use crate::answer::Taken;
+use crate::packet::Fragment;
+use crate::packet::Packet;
+use crate::packet::read;
+use crate::ruling::Ruling;
+use crate::ruling::blocks_of;
+use crate::ruling::is_of_size;
+use crate::ruling::rule;
+use frames::put;
+
+// Takes a guest's frame into its store.
+pub fn take(state: State, frame: &[u8], bytes: &mut [u8], bits: &mut [u64]) -> Taken
+    ensures { λ r. ⌜ Takes state (now (frame .entry)) (now (bytes .entry)) (now (bits .entry)) (now (bytes .exit)) (now (bits .exit)) r ⌝ }
+{
+    let ruling = rule(state, frame, bytes.len(), bits);
+    match ruling {
+        Ruling::Refuse(answer) => Taken { answer, state },
+        Ruling::Pass => Taken {
+            answer: Answer::Passed,
+            state,
+        },
+        Ruling::Store(fragment, end) => store(fragment, end, frame, bytes, bits),
+    }
+}
+
+// The fragment's payload is copied to its place, and its blocks are marked.
+fn store(fragment: Fragment, end: End, frame: &[u8], bytes: &mut [u8], bits: &mut [u64]) -> Taken
+    requires { ⌜ fragment .start + fragment .length ≤ length (now frame) ⌝ }
+    requires { ⌜ endOf fragment ≤ 65515 ⌝ }
+    requires { ⌜ (length (now bytes) ≡ 65515) × (length (now bits) ≡ 128) ⌝ }
+    ensures { λ r. ⌜ Settles (fragment .datagram) end (having (bit (now (bits .entry))) (firstBlock fragment) (stopBlock fragment)) r ⌝ }
+    ensures { λ _. ⌜ Effect (Ruling.Store fragment end) (now (frame .entry)) (now (bytes .entry)) (now (bits .entry)) (now (bytes .exit)) (now (bits .exit)) ⌝ }
+{
+    let start = fragment.start;
+    let stop = start + fragment.length;
+    put(bytes, fragment.offset, &frame[start..stop]);
+    blocks::mark(
+        bits,
+        fragment.offset / 8,
+        blocks_of(fragment.offset + fragment.length),
+    );
+    settle(fragment.datagram, end, bits)
+}
+
+// Complete when the end is known and no block before it is missing.
+fn settle(datagram: Datagram, end: End, bits: &[u64]) -> Taken
+    ensures { λ r. ⌜ Settles datagram end (bit (now (bits .entry))) r ⌝ }
+{
+    match end {
+        End::At(known) => {
+            let blocks = blocks_of(known as usize);
+            if blocks::count(bits, 0, blocks) == blocks {
+                return Taken {
+                    answer: Answer::Complete,
+                    state: State::Complete {
+                        datagram,
+                        length: known,
+                    },
+                };
+            }
+            Taken {
+                answer: Answer::Stored,
+                state: State::Filling { datagram, end },
+            }
+        }
+        End::Unknown => Taken {
+            answer: Answer::Stored,
+            state: State::Filling { datagram, end },
+        },
+    }
+}
+
+// The payload, as a part of the frame that passed or of the store that is complete; for every other
+// answer an empty part.
+pub fn payload<'a>(taken: Taken, frame: &'a [u8], bytes: &'a [u8]) -> &'a [u8]
+    ensures { λ r. ⌜ now r ≡ payloadOf (taken .answer) (taken .state) (now (frame .entry)) (now (bytes .entry)) ⌝ }
+{
+    let answer = taken.answer;
+    let state = taken.state;
+    match answer {
+        Answer::Passed => of_frame(frame),
+        Answer::Complete => of_store(state, bytes),
+        Answer::Stored => &frame[..0],
+        Answer::Released => &frame[..0],
+        Answer::Unfit => &frame[..0],
+        Answer::Held => &frame[..0],
+        Answer::Overlap => &frame[..0],
+        Answer::WrongEnd => &frame[..0],
+    }
+}
+
+fn of_frame(frame: &[u8]) -> &[u8]
+    ensures { λ r. ⌜ now r ≡ wholePayload (now (frame .entry)) (packetOf (now (frame .entry))) ⌝ }
+{
+    let packet = read(frame);
+    match packet {
+        Packet::Whole { start, length } => {
+            let stop = start + length;
+            &frame[start..stop]
+        }
+        Packet::Unfit => &frame[..0],
+        Packet::Part(_) => &frame[..0],
+    }
+}
+
+fn of_store(state: State, bytes: &[u8]) -> &[u8]
+    ensures { λ r. ⌜ now r ≡ storedPayload (now (bytes .entry)) state ⌝ }
+{
+    match state {
+        State::Complete {
+            datagram: _,
+            length,
+        } => first(bytes, length as usize),
+        State::Empty => &bytes[..0],
+        State::Filling {
+            datagram: _,
+            end: _,
+        } => &bytes[..0],
+    }
+}
+
+// The first `n` bytes; none where there are fewer.
+fn first(bytes: &[u8], n: usize) -> &[u8]
+    ensures { λ r. ⌜ now r ≡ pick (leb n (length (now (bytes .entry)))) (take n (now (bytes .entry))) [] ⌝ }
+{
+    if bytes.len() < n {
+        return &bytes[..0];
+    }
+    &bytes[..n]
+}
+
+// Empties the store.
+pub fn release(state: State, bytes: &[u8], bits: &mut [u64]) -> Taken
+    ensures { λ r. ⌜ Releases state (now (bytes .entry)) (now (bits .entry)) (now (bits .exit)) r ⌝ }
+{
+    if !is_of_size(bytes.len(), bits.len()) {
+        return Taken {
+            answer: Answer::Unfit,
+            state,
+        };
+    }
+    blocks::clear(bits);
+    Taken {
+        answer: Answer::Released,
+        state: State::Empty,
+    }
+}
