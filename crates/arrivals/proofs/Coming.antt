@@ -10,6 +10,7 @@ use lib.ListN.{length, getD, drop, length-drop}
 use lib.Seq.{getD-take, getD-drop, length-take-le}
 use Rattle.blocks.specs.Bitmap.{bit, count, having}
 use Rattle.fields.specs.Bytes.{part}
+use Rattle.fields.specs.Rfc894.{body}
 use Rattle.frames.specs.Pick.{pick}
 use Rattle.frames.proofs.Lists.{length-put}
 use Rattle.fragments.specs.Answer.{stored, complete, paper}
@@ -21,12 +22,13 @@ use Rattle.fragments.specs.declared.answer.End.the-variants.{Unknown, At}
 use Rattle.fragments.specs.declared.answer.State.the-variants.{Filling, Complete}
 use Rattle.fragments.specs.declared.ruling.Ruling.{Ruling}
 use Rattle.fragments.specs.declared.ruling.Ruling.the-variants as Ruling
+use Rattle.fragments.proofs.Fitting.{at-block, part-fits}
+use Rattle.fragments.proofs.Storing.{marked}
 use Rattle.arrivals.specs.Calls.{Store, Sized, Call, after}
 use Rattle.arrivals.specs.Trains.{All, Some, EachTwo, piece, Fit, Covers, byteFor, Apart, lasts}
 use Rattle.arrivals.proofs.Counting.{bit-at-most-1, count-none, count-all, count-missing}
-use Rattle.arrivals.proofs.Fitting.{at-block, fit-sound}
 use Rattle.arrivals.proofs.Permuting.{all-both}
-use Rattle.arrivals.proofs.Storing.{byte-put, byte-beside, Block, of-it, other, block, having-at-most-1, bit-marked}
+use Rattle.arrivals.proofs.Storing.{byte-put, byte-beside, Block, of-it, other, block, having-at-most-1}
 
 -- a fragment to come: fit, of the datagram and within it, and none of its blocks is there
 pub record Awaited (d : Datagram) (end : ℕ) (words frame : List ℕ) : Type 0 where
@@ -155,18 +157,17 @@ module _ (d : Datagram) (end : ℕ) (store : Store) (frame : List ℕ) (todo : L
 
     -- the bits, one by one
     bits-after : (b : ℕ) → bit (call .words) b ≡ thereWith store frame b
-    unfolding blocksOf
-    bits-after =
-        bit-marked (firstBlock (piece frame)) (stopBlock (piece frame)) (store .words) (call .words) (effect .1)
-        (omega (arith, c .sized .words-lent, fit-sound frame (c .awaited .0 .fit) .short))
+    bits-after b =
+        ap (λ (there : ℕ → ℕ). there b)
+        (marked (piece frame) (store .words) (call .words) (part-fits frame (piece frame) (c .awaited .0 .fit) .short) (c .sized .words-lent) (effect .1))
 
     -- the payload is as long as its header says
     payload-long : length (part frame (piece frame .start) (piece frame .length)) ≡ piece frame .length
-    payload-long = length-take-le _ _ (omega (arith, length-drop (piece frame .start) frame, fit-sound frame (c .awaited .0 .fit) .in-frame))
+    payload-long = length-take-le _ _ (omega (arith, length-drop (piece frame .start) frame, part-fits frame (piece frame) (c .awaited .0 .fit) .in-frame))
 
     -- and has room in the store
     fits : piece frame .offset + length (part frame (piece frame .start) (piece frame .length)) ≤ length (store .bytes)
-    fits = omega (arith, payload-long, c .sized .bytes-lent, fit-sound frame (c .awaited .0 .fit) .short)
+    fits = omega (arith, payload-long, c .sized .bytes-lent, part-fits frame (piece frame) (c .awaited .0 .fit) .short)
 
     -- which stays as large
     pub still-sized : Sized (after call)
@@ -230,8 +231,8 @@ module _ (d : Datagram) (end : ℕ) (store : Store) (frame : List ℕ) (todo : L
       where
         go : (b : ℕ) → firstBlock (piece g) ≤ b → b < stopBlock (piece g) → Apart frame g
             → BlockWith store frame b → thereWith store frame b ≡ 0
-        go b l u (inl h) (of-it l′ u′ e) = absurd (omega (arith, at-block frame, at-block g))
-        go b l u (inr h) (of-it l′ u′ e) = absurd (omega (arith, at-block frame, at-block g))
+        go b l u (inl h) (of-it l′ u′ e) = absurd (omega (arith, at-block (body frame), at-block (body g)))
+        go b l u (inr h) (of-it l′ u′ e) = absurd (omega (arith, at-block (body frame), at-block (body g)))
         go b l u h (other out e) = e ∙ w .absent b l u
 
     -- and all is as it was before it, for the fragments that are left
@@ -269,7 +270,7 @@ module _ (d : Datagram) (end : ℕ) (store : Store) (frame : List ℕ) (todo : L
     pub stored-now : (g : List ℕ) → Awaited d end (store .words) g → Apart frame g → (paper (call .taken .answer) ≡ stored) × Coming d end (after call) todo
     unfolding blocksOf
     stored-now g w apart =
-        let some = fit-sound g (w .fit) .not-empty in
+        let some = part-fits g (piece g) (w .fit) .not-empty in
         let absent = still-awaited g w apart .absent (firstBlock (piece g)) (omega arith) (omega arith) in
         let at-most-1 : (b : ℕ) → thereWith store frame b ≤ 1 = λ b. having-at-most-1 _ _ _ b (bit-at-most-1 (store .words) b) in
         let known = next-end end frame todo _ (c .known) in

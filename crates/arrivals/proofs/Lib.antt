@@ -1,9 +1,9 @@
 pub mod Permuting
 pub mod Counting
-pub mod Fitting
 pub mod Storing
 pub mod Coming
 pub mod Orders
+pub mod Example
 pub mod OneAnswer
 pub mod Isolation
 pub mod Standing

@@ -12,9 +12,9 @@ use Rattle.fragments.specs.Promises.{Takes, storedPayload}
 use Rattle.fragments.specs.Rules.{isHeld, knownEnd}
 use Rattle.fragments.specs.declared.answer.Datagram.{Datagram}
 use Rattle.fragments.specs.declared.answer.State.the-variants.{Complete}
+use Rattle.fragments.proofs.Fitting.{part-fits}
 use Rattle.arrivals.specs.Calls.{Store, Vacant, Asked, taking, Call, after, Keeps, Runs, leaves, asks}
 use Rattle.arrivals.specs.Trains.{Permuted, All, piece, Fit, Covers, byteFor, Apart, Train, takings, StoredThenComplete, Arrived, EveryOrder}
-use Rattle.arrivals.proofs.Fitting.{fit-sound}
 use Rattle.arrivals.proofs.Permuting.{permuted-back, all-permuted, some-permuted, each-two-permuted, lasts-permuted, all-both, all-some}
 use Rattle.arrivals.proofs.Coming.{Awaited, LastAt, Coming, still-sized, byte-stored, byte-kept, block-kept, block-come, complete-now, stored-now}
 
@@ -87,7 +87,7 @@ module _ (d : Datagram) (end : ℕ) (frames order : List (List ℕ)) (store : St
 
   -- the store is long enough for it
   end-fits : end ≤ 65515
-  end-fits = all-some Fit (LastAt end) (λ frame fit last. omega (arith, fit-sound frame fit .short, last .1)) frames (train .none-gets-10) (train .which-ends)
+  end-fits = all-some Fit (LastAt end) (λ frame fit last. omega (arith, part-fits frame (piece frame) fit .short, last .1)) frames (train .none-gets-10) (train .which-ends)
 
   -- after the last call
   at-last : (calls : List Call) → StoredThenComplete calls → Taken d end store order calls → Arrived d end frames store calls

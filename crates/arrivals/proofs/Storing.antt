@@ -1,15 +1,13 @@
 -- What a stored fragment leaves in the store: its bytes stand at its place and its blocks are there, and the others are as they were.
-use Prim.Native.Nat.{ℕ, _+_, _-_, _*_, _≤_, _<_}
-use mathlib.Core.Path.{_≡_, refl, ap, _∙_}
-use mathlib.Core.Bool.{Bool, true, false}
+use Prim.Native.Nat.{ℕ, _+_, _-_, _≤_, _<_}
+use mathlib.Core.Path.{_≡_, ap, _∙_}
 use mathlib.Core.List.{List, _++_}
 use native.Mathlib.Omega.{arith}
 use native.Mathlib.Decide.{decLt}
-use borrow.Author.Tests.{leb-true, leb-false, ltb-true, ltb-false, le-leb}
-use lib.Dec.{leb, ltb}
 use lib.ListN.{length, getD, take, drop, length-append, length-take, List·getD-append}
 use lib.Seq.{getD-append-add, getD-take, getD-drop, length-take-le}
-use Rattle.blocks.specs.Bitmap.{bit, having, Marked}
+use Rattle.blocks.specs.Bitmap.{having}
+use Rattle.blocks.proofs.Runs.{inside, below, above, Where, before, within, behind, where-is}
 use Rattle.frames.specs.Buffer.{put}
 
 module _ (at : ℕ) (s b : List ℕ) (fits : at + length s ≤ length b) where
@@ -52,13 +50,12 @@ module _ (there : ℕ → ℕ) (first stop b : ℕ) where
 
   -- every block is one of the two
   pub block : Block
-  unfolding having
-  block = go (leb first b) (ltb b stop) refl refl
+  block = go (where-is first stop b)
     where
-      go : (x y : Bool) → leb first b ≡ x → ltb b stop ≡ y → Block
-      go true true e f = of-it (leb-true first b e) (ltb-true b stop f) (rw (e, f))
-      go true false e f = other (λ l. ltb-false b stop f) (rw (e, f))
-      go false y e f = other (λ l. absurd (omega (arith, leb-false first b e))) (rw e)
+      go : Where first stop b → Block
+      go (before h) = other (λ l. absurd (omega arith)) (below there first stop b h)
+      go (within l u) = of-it l u (inside there first stop b l u)
+      go (behind l u) = other (λ h. u) (above there first stop b u)
 
   -- it is there or not, then as before
   pub having-at-most-1 : there b ≤ 1 → having there first stop b ≤ 1
@@ -67,8 +64,3 @@ module _ (there : ℕ → ℕ) (first stop b : ℕ) where
       go : Block → having there first stop b ≤ 1
       go (of-it l u e) = omega arith
       go (other out e) = omega arith
-
--- the bits of words that reach the blocks
-pub bit-marked : (first stop : ℕ) (before after : List ℕ) → Marked first stop before after → stop ≤ length before * 64
-    → (b : ℕ) → bit after b ≡ having (bit before) first stop b
-bit-marked first stop before after m h b = m .bits b ∙ simp (le-leb stop (length before * 64) h)

@@ -1,6 +1,6 @@
 -- What a frame that is not unfit has: a payload that lies in it, and as a fragment some bytes that end at 65,515 at most. The tests that it
 -- passed say so.
-use Prim.Native.Nat.{ℕ, _+_, _≤_}
+use Prim.Native.Nat.{ℕ, _+_, _%_, _≤_}
 use mathlib.Core.Path.{_≡_, refl, subst}
 use mathlib.Core.Bool.{Bool, true, false, not, and-eq-true-iff}
 use mathlib.Core.List.{List}
@@ -50,6 +50,11 @@ lengths frame e =
 pub within-frame : (frame : List ℕ) → sound frame ≡ true → 14 + headerLength (body frame) + payloadLength (body frame) ≤ length frame
 unfolding payloadLength
 within-frame frame e = let l = lengths frame e in omega (arith, l .long, l .header-within, l .total-within, length-drop 14 frame)
+
+-- a fragment starts at a block
+pub at-block : (packet : List ℕ) → fragmentOf packet .offset % 8 ≡ 0
+unfolding fragmentOf fragmentOffset
+at-block packet = omega arith
 
 -- a fragment that is fit
 pub record Fits (frame : List ℕ) (f : Fragment) : Type 0 where
