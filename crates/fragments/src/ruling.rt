@@ -18,7 +18,7 @@ const WORDS: usize = 128;
 
 const BLOCKS: usize = 128 * 64;
 
-const BLOCK: usize = 8;
+pub const BLOCK: usize = 8;
 
 pub enum Ruling {
     Refuse(Answer),
@@ -52,11 +52,13 @@ fn rule_part(state: State, fragment: Fragment, bits: &[u64]) -> Ruling
     if is_held(state, fragment.datagram) {
         return Ruling::Refuse(Answer::Held);
     }
-    if has_block(fragment, bits) {
+    let end = known_end(state);
+    let overlapping = has_block(fragment, bits);
+    let wrong_end = has_wrong_end(fragment, end, bits);
+    if overlapping {
         return Ruling::Refuse(Answer::Overlap);
     }
-    let end = known_end(state);
-    if has_wrong_end(fragment, end, bits) {
+    if wrong_end {
         return Ruling::Refuse(Answer::WrongEnd);
     }
     Ruling::Store(fragment, end_with(fragment, end))
@@ -117,12 +119,9 @@ fn has_block(fragment: Fragment, bits: &[u64]) -> bool
     requires { ⌜ endOf fragment ≤ 65515 ⌝ }
     ensures { λ r. ⌜ r ≡ overlaps fragment (bit (now (bits .entry))) ⌝ }
 {
-    blocks::count(
-        bits,
-        fragment.offset / BLOCK,
-        blocks_of(fragment.offset + fragment.length),
-    )
-        != 0
+    let first = fragment.offset / BLOCK;
+    let stop = blocks_of(fragment.offset + fragment.length);
+    blocks::count(bits, first, stop) != 0
 }
 
 // The end, as far as the store knows it.

@@ -17,6 +17,7 @@ use crate::answer::Taken;
 use crate::packet::Fragment;
 use crate::packet::Packet;
 use crate::packet::read;
+use crate::ruling::BLOCK;
 use crate::ruling::Ruling;
 use crate::ruling::blocks_of;
 use crate::ruling::is_of_size;
@@ -49,11 +50,8 @@ fn store(fragment: Fragment, end: End, frame: &[u8], bytes: &mut [u8], bits: &mu
     let start = fragment.start;
     let stop = start + fragment.length;
     put(bytes, fragment.offset, &frame[start..stop]);
-    blocks::mark(
-        bits,
-        fragment.offset / 8,
-        blocks_of(fragment.offset + fragment.length),
-    );
+    let first = fragment.offset / BLOCK;
+    blocks::mark(bits, first, blocks_of(fragment.offset + fragment.length));
     settle(fragment.datagram, end, bits)
 }
 
@@ -73,15 +71,19 @@ fn settle(datagram: Datagram, end: End, bits: &[u64]) -> Taken
                     },
                 };
             }
-            Taken {
-                answer: Answer::Stored,
-                state: State::Filling { datagram, end },
-            }
+            filling(datagram, end)
         }
-        End::Unknown => Taken {
-            answer: Answer::Stored,
-            state: State::Filling { datagram, end },
-        },
+        End::Unknown => filling(datagram, end),
+    }
+}
+
+// More is to come.
+fn filling(datagram: Datagram, end: End) -> Taken
+    ensures { λ r. ⌜ r ≡ record { answer = Answer.Stored; state = State.Filling datagram end } ⌝ }
+{
+    Taken {
+        answer: Answer::Stored,
+        state: State::Filling { datagram, end },
     }
 }
 

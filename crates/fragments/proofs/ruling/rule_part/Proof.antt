@@ -15,24 +15,24 @@ returns : tie.Need-returns
 unfolding partRuling
 returns c = simp (sym (c .before .is-held .ensures) ∙ c .if1 .taken)
 
-has-block-requires : tie.Need-has-block-requires
-has-block-requires c κs = search needs
-
-returns-2 : tie.Need-returns-2
-unfolding partRuling
-returns-2 c = simp (sym (c .before .before .before .is-held .ensures) ∙ c .before .before .if1 .left, sym (c .before .has-block .ensures) ∙ c .if2 .taken)
-
 known-end-requires : tie.Need-known-end-requires
 known-end-requires c κs = search needs
 
+has-block-requires : tie.Need-has-block-requires
+has-block-requires c κs = search needs
+
 has-wrong-end-requires : tie.Need-has-wrong-end-requires
 has-wrong-end-requires c κs = search needs
+
+returns-2 : tie.Need-returns-2
+unfolding partRuling
+returns-2 c = simp (sym (c .before .before .before .before .before .is-held .ensures) ∙ c .before .before .before .before .if1 .left, sym (c .before .before .has-block .ensures) ∙ c .if2 .taken)
 
 returns-3 : tie.Need-returns-3
 unfolding partRuling
 returns-3 c =
     let a = c .before .before .before .before .before .before .before .before .args in
-    simp (sym (c .before .before .before .before .before .before .is-held .ensures) ∙ c .before .before .before .before .before .if1 .left, sym (c .before .before .before .before .has-block .ensures) ∙ c .before .before .before .if2 .left, ap (λ (e : End). wrongEnd (a .fragment) e (bit (a .bits .now))) (sym (c .before .before .known-end .ensures)) ∙ sym (c .before .has-wrong-end .ensures) ∙ c .if3 .taken)
+    simp (sym (c .before .before .before .before .before .before .is-held .ensures) ∙ c .before .before .before .before .before .if1 .left, sym (c .before .before .before .has-block .ensures) ∙ c .before .if2 .left, ap (λ (e : End). wrongEnd (a .fragment) e (bit (a .bits .now))) (sym (c .before .before .before .before .known-end .ensures)) ∙ sym (c .before .before .has-wrong-end .ensures) ∙ c .if3 .taken)
 
 end-with-requires : tie.Need-end-with-requires
 end-with-requires c κs = search needs
@@ -41,8 +41,8 @@ returns-4 : tie.Need-returns-4
 unfolding partRuling
 returns-4 c =
     let a = c .before .before .before .before .before .before .before .before .before .args in
-    ap (Store (a .fragment)) (c .end-with .ensures ∙ ap (endWith (a .fragment)) (c .before .before .before .known-end .ensures))
-    ∙ simp (sym (c .before .before .before .before .before .before .before .is-held .ensures) ∙ c .before .before .before .before .before .before .if1 .left, sym (c .before .before .before .before .before .has-block .ensures) ∙ c .before .before .before .before .if2 .left, ap (λ (e : End). wrongEnd (a .fragment) e (bit (a .bits .now))) (sym (c .before .before .before .known-end .ensures)) ∙ sym (c .before .before .has-wrong-end .ensures) ∙ c .before .if3 .left)
+    ap (Store (a .fragment)) (c .end-with .ensures ∙ ap (endWith (a .fragment)) (c .before .before .before .before .before .known-end .ensures))
+    ∙ simp (sym (c .before .before .before .before .before .before .before .is-held .ensures) ∙ c .before .before .before .before .before .before .if1 .left, sym (c .before .before .before .before .has-block .ensures) ∙ c .before .before .if2 .left, ap (λ (e : End). wrongEnd (a .fragment) e (bit (a .bits .now))) (sym (c .before .before .before .before .before .known-end .ensures)) ∙ sym (c .before .before .before .has-wrong-end .ensures) ∙ c .before .if3 .left)
 
 pub rule-part-spec : {M : Type 1} → statement M
 rule-part-spec =
@@ -50,10 +50,10 @@ rule-part-spec =
     (tie.spec
     is-held-requires
     returns
-    has-block-requires
-    returns-2
     known-end-requires
+    has-block-requires
     has-wrong-end-requires
+    returns-2
     returns-3
     end-with-requires
     returns-4)

@@ -32,22 +32,28 @@ returns c =
     let e = eq-eqb (count there 0 n) n (k ∙ c .if1 .taken ∙ c .before .before .blocks-of .ensures) in
     rw (c .before .before .before .before .end .given .1) (record { answers = simp e; next = simp e })
 
+filling-requires : tie.Need-filling-requires
+filling-requires c κs = search needs
+
 enum-told : tie.Need-enum-told
 enum-told c = search needs
+
+filling-requires-2 : tie.Need-filling-requires-2
+filling-requires-2 c κs = search needs
 
 returns-2 : tie.Need-returns-2
 unfolding paper settled
 returns-2 c =
-    let a = c .before .before .before .before .before .before .before .args in
+    let a = c .before .before .before .before .before .before .before .before .args in
     let there = bit (a .bits .now) in
-    let n = blocksOf (c .before .before .before .before .end .given .0 .0) in
-    let k : count there 0 n ≡ c .before .count .result = ap (count there 0) {x = n} {y = c .before .before .blocks-of .result - 0} (omega (arith, c .before .before .blocks-of .ensures)) ∙ sym (c .before .count .ensures) in
-    let e = ne-eqb (count there 0 n) n (λ q. c .if1 .left (sym k ∙ q ∙ sym (c .before .before .blocks-of .ensures))) in
-    rw (c .before .before .before .before .end .given .1) (record { answers = simp e; next = simp e })
+    let n = blocksOf (c .before .before .before .before .before .end .given .0 .0) in
+    let k : count there 0 n ≡ c .before .before .count .result = ap (count there 0) {x = n} {y = c .before .before .before .blocks-of .result - 0} (omega (arith, c .before .before .before .blocks-of .ensures)) ∙ sym (c .before .before .count .ensures) in
+    let e = ne-eqb (count there 0 n) n (λ q. c .before .if1 .left (sym k ∙ q ∙ sym (c .before .before .before .blocks-of .ensures))) in
+    rw (c .filling .ensures, c .before .before .before .before .before .end .given .1) (record { answers = simp e; next = simp e })
 
 returns-3 : tie.Need-returns-3
 unfolding paper settled
-returns-3 c = rw (c .enum-told .given .1) (record { answers = refl; next = refl })
+returns-3 c = rw (c .filling2 .ensures, c .before .enum-told .given .1) (record { answers = refl; next = refl })
 
 pub settle-spec : {M : Type 1} → statement M
 settle-spec =
@@ -58,6 +64,8 @@ settle-spec =
     blocks-of-requires
     count-requires
     returns
+    filling-requires
     enum-told
+    filling-requires-2
     returns-2
     returns-3)
