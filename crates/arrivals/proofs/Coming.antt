@@ -85,7 +85,7 @@ module _ (end : ℕ) (frame : List ℕ) (todo : List (List ℕ)) where
       go false e (At end′) h = (h .0, omega (arith, rw e at (h .1)))
 
 -- what the next fragment makes of the blocks that are there
-abbrev thereWith : Store → (frame : List ℕ) → ℕ → ℕ
+abbrev pub thereWith : Store → (frame : List ℕ) → ℕ → ℕ
 thereWith store frame = having (bit (store .words)) (firstBlock (piece frame)) (stopBlock (piece frame))
 
 -- a block is one of the fragment's or another

@@ -2,8 +2,10 @@ pub mod Permuting
 pub mod Counting
 pub mod Storing
 pub mod Coming
+pub mod Leaving
 pub mod Orders
 pub mod Example
 pub mod OneAnswer
 pub mod Isolation
 pub mod Standing
+pub mod Brought

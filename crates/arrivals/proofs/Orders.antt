@@ -13,28 +13,24 @@ use Rattle.fragments.specs.Rules.{isHeld, knownEnd}
 use Rattle.fragments.specs.declared.answer.Datagram.{Datagram}
 use Rattle.fragments.specs.declared.answer.State.the-variants.{Complete}
 use Rattle.fragments.proofs.Fitting.{part-fits}
-use Rattle.arrivals.specs.Calls.{Store, Vacant, Asked, taking, Call, after, Keeps, Runs, leaves, asks}
-use Rattle.arrivals.specs.Trains.{Permuted, All, piece, Fit, Covers, byteFor, Apart, Train, takings, StoredThenComplete, Arrived, EveryOrder}
+use Rattle.arrivals.specs.Calls.{Store, Vacant, taking, Call, after, Runs, leaves, asks}
+use Rattle.arrivals.specs.Trains.{Permuted, All, piece, Fit, Covers, byteFor, Apart, Train, takings, StoredThenComplete, Among, none, its-own, passing, Arrived, EveryOrder}
+use Rattle.arrivals.proofs.Leaving.{takes, passes-by}
 use Rattle.arrivals.proofs.Permuting.{permuted-back, all-permuted, some-permuted, each-two-permuted, lasts-permuted, all-both, all-some}
 use Rattle.arrivals.proofs.Coming.{Awaited, LastAt, Coming, still-sized, byte-stored, byte-kept, block-kept, block-come, complete-now, stored-now}
 
 -- what the calls leave that take all fragments to come: the state, and each byte that was there or has come
-record Taken (d : Datagram) (end : ℕ) (store : Store) (todo : List (List ℕ)) (calls : List Call) : Type 0 where
+record AllTaken (d : Datagram) (end : ℕ) (store : Store) (todo : List (List ℕ)) (calls : List Call) : Type 0 where
   held : leaves store calls .state ≡ Complete d end
   lent : length (leaves store calls .bytes) ≡ 65515
   kept : (place : ℕ) → bit (store .words) (place / 8) ≡ 1 → getD (leaves store calls .bytes) place 0 ≡ getD (store .bytes) place 0
   come : All (λ (frame : List ℕ). (place : ℕ) → Covers place frame → getD (leaves store calls .bytes) place 0 ≡ byteFor place frame) todo
 
--- a frame that was to be taken was taken as promised
-pub takes : (store : Store) (frame : List ℕ) (call : Call) → call .asked ≡ taking frame → Keeps (call .asked) store (after call) (call .taken)
-    → Takes (store .state) frame (store .bytes) (store .words) (call .bytes) (call .words) (call .taken)
-takes store frame call e k = subst (λ (asked : Asked). Keeps asked store (after call) (call .taken)) e k .0
-
 module _ (d : Datagram) (end : ℕ) where
   -- one call and then the others
   and-then : (store : Store) (frame : List ℕ) (todo : List (List ℕ)) (c : Coming d end store (frame ∷ todo)) (call : Call)
       → Takes (store .state) frame (store .bytes) (store .words) (call .bytes) (call .words) (call .taken)
-      → (calls : List Call) → Taken d end (after call) todo calls → Taken d end store (frame ∷ todo) (call ∷ calls)
+      → (calls : List Call) → AllTaken d end (after call) todo calls → AllTaken d end store (frame ∷ todo) (call ∷ calls)
   and-then store frame todo c call t calls rest = record {
     held = rest .held;
     lent = rest .lent;
@@ -44,12 +40,12 @@ module _ (d : Datagram) (end : ℕ) where
 
   -- all calls, one after the other
   all-taken : (frame : List ℕ) (todo : List (List ℕ)) (store : Store) (calls : List Call) → Coming d end store (frame ∷ todo) → Runs store calls
-      → asks calls ≡ taking frame ∷ takings todo → StoredThenComplete calls × Taken d end store (frame ∷ todo) calls
+      → asks calls ≡ taking frame ∷ takings todo → StoredThenComplete calls × AllTaken d end store (frame ∷ todo) calls
   all-taken frame [] store [] c r e = absurd (omega (arith, ap length e))
   all-taken frame [] store (call ∷ []) c r e =
       let t = takes store frame call (cc) (r .0) in
       let now = complete-now d end store frame [] c call t refl (λ place none. none) in
-      let done : Taken d end (after call) [] [] = record { held = now .1; lent = still-sized d end store frame [] c call t .bytes-lent; kept = λ place there. refl; come = tt } in
+      let done : AllTaken d end (after call) [] [] = record { held = now .1; lent = still-sized d end store frame [] c call t .bytes-lent; kept = λ place there. refl; come = tt } in
       (now .0, and-then store frame [] c call t [] done)
   all-taken frame [] store (call ∷ next ∷ calls) c r e = absurd (omega (arith, ap length e))
   all-taken frame (g ∷ todo) store [] c r e = absurd (omega (arith, ap length e))
@@ -90,7 +86,7 @@ module _ (d : Datagram) (end : ℕ) (frames order : List (List ℕ)) (store : St
   end-fits = all-some Fit (LastAt end) (λ frame fit last. omega (arith, part-fits frame (piece frame) fit .short, last .1)) frames (train .none-gets-10) (train .which-ends)
 
   -- after the last call
-  at-last : (calls : List Call) → StoredThenComplete calls → Taken d end store order calls → Arrived d end frames store calls
+  at-last : (calls : List Call) → StoredThenComplete calls → AllTaken d end store order calls → Arrived d end frames calls (leaves store calls)
   unfolding storedPayload
   at-last calls answers t = record {
     answers = answers;
@@ -110,12 +106,28 @@ module _ (d : Datagram) (end : ℕ) (frames order : List (List ℕ)) (store : St
       payload : storedPayload (leaves store calls .bytes) (leaves store calls .state) ≡ take end (leaves store calls .bytes)
       payload = rw (t .held, le-leb end (length (leaves store calls .bytes)) (omega (arith, t .lent, end-fits)))
 
--- every order ends complete, with each byte in its place
-pub every-order : EveryOrder
-every-order d end frames order store calls train p v r e = go order p e
+-- with nothing between
+alone : (d : Datagram) (end : ℕ) (frames order : List (List ℕ)) (store : Store) (calls : List Call) → Train d end frames → Permuted frames order → Vacant store
+    → Runs store calls → asks calls ≡ takings order → Arrived d end frames calls (leaves store calls)
+alone d end frames order store calls train p v r e = go order p e
   where
-    go : (order : List (List ℕ)) → Permuted frames order → asks calls ≡ takings order → Arrived d end frames store calls
+    go : (order : List (List ℕ)) → Permuted frames order → asks calls ≡ takings order → Arrived d end frames calls (leaves store calls)
     go [] p e = absurd (omega (arith, train .one-last, lasts-permuted p))
     go (frame ∷ todo) p e =
         let all = all-taken d end frame todo store calls (at-first d end frames (frame ∷ todo) store train p v) r e in
         at-last d end frames (frame ∷ todo) store train p calls (all .0) (all .1)
+
+-- calls that pass by can be left out
+left-out : {its calls : List Call} → Among its calls → (store : Store) → Runs store calls → Runs store its × (leaves store its ≡ leaves store calls)
+left-out none store r = (tt, refl)
+left-out (its-own {call} a) store r = let rest = left-out a (after call) (r .1) in ((r .0, rest .0), rest .1)
+left-out (passing {call} {its} {calls} frame asked by a) store r =
+    let same = passes-by store frame call asked (r .0) by in
+    let rest = left-out a store (subst (λ (s : Store). Runs s calls) same (r .1)) in
+    (rest .0, rest .1 ∙ ap (λ (s : Store). leaves s calls) (sym same))
+
+-- every order ends complete, with each byte in its place
+pub every-order : EveryOrder
+every-order d end frames order store its calls train p v r a e =
+    let out = left-out a store r in
+    subst (Arrived d end frames its) (out .1) (alone d end frames order store its train p v (out .0) e)

@@ -1,53 +1,37 @@
 -- A complete datagram stands until it is released, and a release leaves an empty store: no ruling of a complete store stores, and zeros have no bit.
 use Prim.Native.Nat.{ℕ, zero, suc, _/_, _%_, _^_}
-use mathlib.Core.Path.{_≡_, refl, ap, sym, subst, _∙_}
-use mathlib.Core.Bool.{Bool, true, false, not}
+use mathlib.Core.Path.{_≡_, refl, ap, subst, _∙_}
+use mathlib.Core.Bool.{true, true≢false}
 use mathlib.Core.List.{List, [], _∷_}
 use native.Mathlib.Nat.{zero-div}
 use native.Mathlib.Omega.{arith}
 use borrow.Author.Tests.{eq-eqb}
 use lib.ListN.{length, getD, drop, replicate, length-replicate}
 use Rattle.blocks.specs.Bitmap.{bit}
-use Rattle.frames.specs.Pick.{pick}
 use Rattle.fragments.specs.Answer.{complete, released, paper}
-use Rattle.fragments.specs.Promises.{Untouched, Effect, Takes, storedPayload, payloadOf}
-use Rattle.fragments.specs.Rfc791.{packetOf}
+use Rattle.fragments.specs.Promises.{storedPayload, payloadOf}
 use Rattle.fragments.specs.Rules.{ofSize, isHeld, partRuling, packetRuling, ruling, outcomeOf}
 use Rattle.fragments.specs.declared.answer.Answer.{Answer}
 use Rattle.fragments.specs.declared.answer.Answer.the-variants as Answer
 use Rattle.fragments.specs.declared.answer.Datagram.{Datagram}
 use Rattle.fragments.specs.declared.answer.State.{State}
 use Rattle.fragments.specs.declared.answer.State.the-variants.{Complete}
-use Rattle.fragments.specs.declared.packet.Packet.{Packet}
-use Rattle.fragments.specs.declared.packet.Packet.the-variants.{Unfit, Whole, Part}
-use Rattle.fragments.specs.declared.ruling.Ruling.the-variants.{Refuse}
 use Rattle.arrivals.specs.Calls.{Store, Sized, Vacant, taking, releasing, Call, after, Keeps, Runs, asks}
 use Rattle.arrivals.specs.Trains.{All, takings, Stands}
 use Rattle.arrivals.proofs.OneAnswer.{paper-one-to-one}
-use Rattle.arrivals.proofs.Orders.{takes}
+use Rattle.fragments.proofs.Ruled.{stored}
+use Rattle.arrivals.proofs.Leaving.{takes, leaves-alone}
 
 module _ (d : Datagram) (n : ℕ) where
-  -- no ruling of a complete store touches it
-  left-alone : (t : Bool) (p : Packet) (there : ℕ → ℕ) (frame bytes words bytes′ words′ : List ℕ)
-      → Effect (pick (not t) (Refuse Answer.Unfit) (packetRuling (Complete d n) there p)) frame bytes words bytes′ words′
-      → (outcomeOf (Complete d n) there (pick (not t) (Refuse Answer.Unfit) (packetRuling (Complete d n) there p)) .state ≡ Complete d n) × Untouched bytes words bytes′ words′
-  unfolding packetRuling partRuling isHeld outcomeOf
-  left-alone false p there frame bytes words bytes′ words′ e = (refl, e)
-  left-alone true Unfit there frame bytes words bytes′ words′ e = (refl, e)
-  left-alone true (Whole start len) there frame bytes words bytes′ words′ e = (refl, e)
-  left-alone true (Part f) there frame bytes words bytes′ words′ e = (refl, e)
-
-  -- one call
+  -- one call: a complete store is held
   stands-once : (store : Store) (frame : List ℕ) (call : Call) → store .state ≡ Complete d n → call .asked ≡ taking frame
       → Keeps (call .asked) store (after call) (call .taken) → Stands store call
   unfolding ruling packetRuling partRuling ofSize isHeld outcomeOf paper
   stands-once store frame call held asked k =
-      let t = subst (λ (s : State). Takes s frame (store .bytes) (store .words) (call .bytes) (call .words) (call .taken)) held (takes store frame call asked k) in
-      let of-size = ofSize (length (store .bytes)) (length (store .words)) in
-      let alone = left-alone of-size (packetOf frame) (bit (store .words)) frame (store .bytes) (store .words) (call .bytes) (call .words) (t .store) in
-      let state : call .taken .state ≡ store .state = t .next ∙ alone .0 ∙ sym held in
       record {
-        as-it-was = λ i. record { state = state i; bytes = alone .1 .kept-bytes i; words = alone .1 .kept-bits i };
+        as-it-was =
+            leaves-alone store frame call asked k (λ f end e.
+            true≢false (rw held at (stored (store .state) frame (length (store .bytes)) (store .words) f end e .1 .free)));
         gets-11 = λ sized frame′ asked′ fit.
             takes store frame′ call asked′ k .answers ∙ rw (held, eq-eqb _ _ (sized .bytes-lent), eq-eqb _ _ (sized .words-lent), fit);
       }

@@ -85,13 +85,22 @@ StoredThenComplete [] = ⊥
 StoredThenComplete (call ∷ []) = paper (call .taken .answer) ≡ complete
 StoredThenComplete (call ∷ next ∷ rest) = (paper (call .taken .answer) ≡ stored) × StoredThenComplete (next ∷ rest)
 
--- The datagram has arrived: the answers, the state, and the payload that is handed out, byte by byte.
-pub record Arrived (datagram : Datagram) (end : ℕ) (frames : List (List ℕ)) (store : Store) (calls : List Call) : Type 0 where
-  pub answers : StoredThenComplete calls
-  pub held : leaves store calls .state ≡ Complete datagram end
-  pub as-long : length (storedPayload (leaves store calls .bytes) (leaves store calls .state)) ≡ end
-  pub each-byte : (place : ℕ)
-      → All (λ (frame : List ℕ). Covers place frame → getD (storedPayload (leaves store calls .bytes) (leaves store calls .state)) place 0 ≡ byteFor place frame) frames
+-- a frame that is no fit fragment, of this or another datagram: it passes or gets 10
+abbrev pub PassesBy : (frame : List ℕ) → Type 0
+PassesBy frame = (f : Fragment) → packetOf frame ≡ Part f → ⊥
+
+-- Calls of a train among all calls: between them frames pass by, and there is "no release or other datagram's fragment between".
+pub data Among : (its calls : List Call) → Type 0 where
+  none : Among [] []
+  its-own : {call : Call} {its calls : List Call} → Among its calls → Among (call ∷ its) (call ∷ calls)
+  passing : {call : Call} {its calls : List Call} (frame : List ℕ) → call .asked ≡ taking frame → PassesBy frame → Among its calls → Among its (call ∷ calls)
+
+-- The datagram has arrived: the answers of its own calls, and in the store that is left the state and the payload that is handed out, byte by byte.
+pub record Arrived (datagram : Datagram) (end : ℕ) (frames : List (List ℕ)) (its : List Call) (left : Store) : Type 0 where
+  pub answers : StoredThenComplete its
+  pub held : left .state ≡ Complete datagram end
+  pub as-long : length (storedPayload (left .bytes) (left .state)) ≡ end
+  pub each-byte : (place : ℕ) → All (λ (frame : List ℕ). Covers place frame → getD (storedPayload (left .bytes) (left .state)) place 0 ≡ byteFor place frame) frames
 
 -- A complete store stands: a call leaves it as it was, and a fit fragment gets 11.
 pub record Stands (store : Store) (call : Call) : Type 0 where
@@ -101,6 +110,6 @@ pub record Stands (store : Store) (call : Call) : Type 0 where
 -- the order theorem's statement
 abbrev pub EveryOrder : Type 0
 EveryOrder =
-    (datagram : Datagram) (end : ℕ) (frames order : List (List ℕ)) (store : Store) (calls : List Call)
-    → Train datagram end frames → Permuted frames order → Vacant store → Runs store calls → asks calls ≡ takings order
-    → Arrived datagram end frames store calls
+    (datagram : Datagram) (end : ℕ) (frames order : List (List ℕ)) (store : Store) (its calls : List Call)
+    → Train datagram end frames → Permuted frames order → Vacant store → Runs store calls → Among its calls → asks its ≡ takings order
+    → Arrived datagram end frames its (leaves store calls)

@@ -2,10 +2,10 @@
 -- passed say so.
 use Prim.Native.Nat.{ℕ, _+_, _%_, _≤_}
 use mathlib.Core.Path.{_≡_, refl, subst}
-use mathlib.Core.Bool.{Bool, true, false, not, and-eq-true-iff}
+use mathlib.Core.Bool.{Bool, true, false, _&&_, _||_, not, and-eq-true-iff}
 use mathlib.Core.List.{List}
 use native.Mathlib.Omega.{arith}
-use borrow.Author.Tests.{leb-true, not-true, not-false, eqb-false}
+use borrow.Author.Tests.{leb-true, not-true, not-false, eqb-true, eqb-false}
 use lib.ListN.{length, length-drop}
 use lib.Dec.{leb, eqb}
 use Rattle.fields.specs.Rfc791.{version, headerLength, totalLength}
@@ -62,21 +62,47 @@ pub record Fits (frame : List ℕ) (f : Fragment) : Type 0 where
   pub short : endOf f ≤ 65515
   pub in-frame : f .start + f .length ≤ length frame
 
-pub part-fits : (frame : List ℕ) (f : Fragment) → packetOf frame ≡ Part f → Fits frame f
-unfolding packetOf fragmentOf goodLength
-part-fits frame f e =
+-- a frame that is a fragment has passed the tests
+record Passed (frame : List ℕ) (f : Fragment) : Type 0 where
+  is : fragmentOf (body frame) ≡ f
+  is-sound : sound frame ≡ true
+  good : goodLength (moreFragments (body frame)) (payloadLength (body frame)) ≡ true
+  near : leb (fragmentOffset (body frame) + payloadLength (body frame)) 65515 ≡ true
+
+passed : (frame : List ℕ) (f : Fragment) → packetOf frame ≡ Part f → Passed frame f
+unfolding packetOf
+passed frame f e =
     let one = past-unfit (not (sound frame)) _ _ e in
     let two = past-whole (isWhole (body frame)) _ _ _ _ (one .1) in
     let three = past-unfit (not (goodLength (moreFragments (body frame)) (payloadLength (body frame)))) _ _ two in
     let four = past-unfit (not (leb (fragmentOffset (body frame) + payloadLength (body frame)) 65515)) _ _ (three .1) in
-    let some = and-eq-true-iff (not (eqb (payloadLength (body frame)) 0)) _ .0 (not-false _ (three .0)) .0 in
-    let is : fragmentOf (body frame) ≡ f = cc in
-    subst (Fits frame) is
+    record { is = cc; is-sound = not-false _ (one .0); good = not-false _ (three .0); near = not-false _ (four .0) }
+
+-- it is the fragment that its frame holds
+pub part-is : (frame : List ℕ) (f : Fragment) → packetOf frame ≡ Part f → fragmentOf (body frame) ≡ f
+part-is frame f e = passed frame f e .is
+
+pub part-fits : (frame : List ℕ) (f : Fragment) → packetOf frame ≡ Part f → Fits frame f
+unfolding fragmentOf goodLength
+part-fits frame f e =
+    let tests = passed frame f e in
+    let some = and-eq-true-iff (not (eqb (payloadLength (body frame)) 0)) _ .0 (tests .good) .0 in
+    subst (Fits frame) (tests .is)
     (record {
       not-empty = omega (arith, eqb-false (payloadLength (body frame)) 0 (not-true _ some));
-      short = leb-true _ _ (not-false _ (four .0));
-      in-frame = within-frame frame (not-false _ (one .0));
+      short = leb-true _ _ (tests .near);
+      in-frame = within-frame frame (tests .is-sound);
     })
+
+-- one that is not the last ends where a block does
+pub ends-at-block : (frame : List ℕ) (f : Fragment) → packetOf frame ≡ Part f → f .last ≡ false → endOf f % 8 ≡ 0
+unfolding fragmentOf goodLength
+ends-at-block frame f e = let tests = passed frame f e in subst (λ (g : Fragment). g .last ≡ false → endOf g % 8 ≡ 0) (tests .is) (go (moreFragments (body frame)) (tests .good))
+  where
+    go : (more : Bool) → (not (eqb (payloadLength (body frame)) 0) && (not more || eqb (payloadLength (body frame) % 8) 0)) ≡ true → not more ≡ false
+        → (fragmentOffset (body frame) + payloadLength (body frame)) % 8 ≡ 0
+    go true e m = omega (arith, at-block (body frame), eqb-true (payloadLength (body frame) % 8) 0 (and-eq-true-iff (not (eqb (payloadLength (body frame)) 0)) _ .0 e .1))
+    go false e m = let z : _≡_ {A = ℕ} 0 1 = cc in absurd (omega arith)
 
 -- a whole datagram's payload lies in its frame too
 pub whole-fits : (frame : List ℕ) (start n : ℕ) → packetOf frame ≡ Whole start n → start + n ≤ length frame

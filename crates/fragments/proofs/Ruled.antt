@@ -2,7 +2,7 @@
 use Prim.Native.Nat.{ℕ}
 use mathlib.Core.Bool.{Bool, true, false, not}
 use mathlib.Core.List.{List}
-use mathlib.Core.Path.{_≡_, refl, ap}
+use mathlib.Core.Path.{_≡_, refl, subst}
 use native.Mathlib.Omega.{arith}
 use borrow.Author.Tests.{not-false}
 use lib.ListN.{length}
@@ -24,22 +24,30 @@ past-refusal : (t : Bool) (answer : Answer) (r : Ruling) (f : Fragment) (end : E
 past-refusal true answer r f end e = let z : _≡_ {A = ℕ} 0 1 = cc in absurd (omega arith)
 past-refusal false answer r f end e = (refl, e)
 
-part-stored : (state : State) (there : ℕ → ℕ) (g f : Fragment) (end : End) → partRuling state there g ≡ Store f end → g ≡ f
-unfolding partRuling
-part-stored state there g f end e =
-    let one = past-refusal (isHeld state (g .datagram)) _ _ f end e .1 in
-    let two = past-refusal (overlaps g there) _ _ f end one .1 in
-    let three : Store g (endWith g (knownEnd state)) ≡ Store f end = past-refusal (wrongEnd g (knownEnd state) there) _ _ f end two .1 in
-    cc
+-- what is known of a fragment that is to be stored, and of the end that is kept with it
+pub record Stored (state : State) (there : ℕ → ℕ) (packet : Packet) (f : Fragment) (end : End) : Type 0 where
+  pub is-part : packet ≡ Part f
+  pub free : isHeld state (f .datagram) ≡ false
+  pub apart : overlaps f there ≡ false
+  pub right-end : wrongEnd f (knownEnd state) there ≡ false
+  pub ends : endWith f (knownEnd state) ≡ end
 
-packet-stored : (state : State) (there : ℕ → ℕ) (p : Packet) (f : Fragment) (end : End) → packetRuling state there p ≡ Store f end → p ≡ Part f
-unfolding packetRuling
+packet-stored : (state : State) (there : ℕ → ℕ) (p : Packet) (f : Fragment) (end : End) → packetRuling state there p ≡ Store f end → Stored state there p f end
+unfolding packetRuling partRuling
 packet-stored state there Unfit f end e = let z : _≡_ {A = ℕ} 0 1 = cc in absurd (omega arith)
 packet-stored state there (Whole start length) f end e = let z : _≡_ {A = ℕ} 0 1 = cc in absurd (omega arith)
-packet-stored state there (Part g) f end e = ap Part (part-stored state there g f end e)
+packet-stored state there (Part g) f end e =
+    let one = past-refusal (isHeld state (g .datagram)) _ _ f end e in
+    let two = past-refusal (overlaps g there) _ _ f end (one .1) in
+    let three = past-refusal (wrongEnd g (knownEnd state) there) _ _ f end (two .1) in
+    let four : Store g (endWith g (knownEnd state)) ≡ Store f end = three .1 in
+    let same : g ≡ f = cc in
+    let ends : endWith g (knownEnd state) ≡ end = cc in
+    subst (λ (h : Fragment). Stored state there (Part g) h end) same
+    (record { is-part = refl; free = one .0; apart = two .0; right-end = three .0; ends = ends })
 
 pub stored : (state : State) (frame : List ℕ) (n : ℕ) (words : List ℕ) (f : Fragment) (end : End) → ruling state frame n words ≡ Store f end
-    → (ofSize n (length words) ≡ true) × (packetOf frame ≡ Part f)
+    → (ofSize n (length words) ≡ true) × Stored state (bit words) (packetOf frame) f end
 unfolding ruling
 stored state frame n words f end e =
     let one = past-refusal (not (ofSize n (length words))) _ _ f end e in

@@ -26,7 +26,7 @@ store-requires : tie.Need-store-requires
 store-requires c κs =
     let a = c .before .before .before .before .before .before .before .before .before .before .args in
     let to-store = stored (a .state) (a .frame .now) (length (a .bytes .now)) (a .bits .now) (c .before .before .before .ruling2 .given .0 .0) (c .before .before .before .ruling2 .given .0 .1 .0) (sym (c .before .before .before .before .before .rule .ensures) ∙ c .before .before .before .ruling2 .given .1) in
-    let fits = part-fits (a .frame .now) (c .before .before .before .ruling2 .given .0 .0) (to-store .1) in
+    let fits = part-fits (a .frame .now) (c .before .before .before .ruling2 .given .0 .0) (to-store .1 .is-part) in
     (fits .in-frame, (fits .short, of-size _ _ (to-store .0)))
 
 same-length : tie.Need-same-length
