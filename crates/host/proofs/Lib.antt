@@ -1,3 +1,4 @@
 pub mod OneAnswer
+pub mod Reassembling
 pub mod Room
 pub mod Telling

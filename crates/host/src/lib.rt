@@ -1,8 +1,9 @@
-// What a host links: the gateway with its record lent, the three builders, the checksum and the strict reader.
+// What a host links: the gateway with its record lent, the three builders, the checksum, the strict reader and reassembly.
 // `include/yavoledu.h` has the exported functions as C sees them. No function has a `requires`.
 mod builders;
 mod entry;
 mod numbers;
 mod reading;
+mod reassembly;
 
 pub use entry::send;

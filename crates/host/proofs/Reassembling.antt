@@ -1,0 +1,41 @@
+-- The parts of a call on a store, put together.
+use Prim.Native.Nat.{ℕ}
+use mathlib.Core.List.{List}
+use mathlib.Core.Path.{_≡_, ap, sym, _∙_, subst}
+use lib.ListN.{length, getD}
+use Rattle.fields.specs.Bytes.{part}
+use Rattle.fragments.specs.Promises.{Takes, Releases, payloadOf}
+use Rattle.fragments.specs.declared.answer.State.{State}
+use Rattle.fragments.specs.declared.answer.Taken.{Taken}
+use Rattle.host.specs.Reassembly.{Took, Freed}
+use Rattle.states.proofs.Standing.{payload-stands, read-as, released-as}
+use Rattle.states.specs.Told.{Tells, placeOf, placedIn}
+use Rattle.states.specs.Words.{stateOf}
+
+pub took-of : {words frame bytes bits words′ bytes′ bits′ place : List ℕ} {number : ℕ} {state : State} (taken : Taken)
+    → state ≡ stateOf words → Takes state frame bytes bits bytes′ bits′ taken
+    → place ≡ placeOf (taken .answer) (taken .state) frame (length bytes′) → Tells words words′ taken number
+    → Took words frame bytes bits words′ bytes′ bits′ place number
+took-of {words} {frame} {bytes} {bits} {words′} {bytes′} {bits′} {place} {number} {state} taken e t p s =
+    let takes : Takes (stateOf words) frame bytes bits bytes′ bits′ taken = subst (λ (x : State). Takes x frame bytes bits bytes′ bits′ taken) e t in
+    record {
+      taken = taken;
+      takes = takes;
+      tells = s;
+      next = s .read ∙ read-as _ (stateOf words) frame bytes bits bytes′ bits′ taken takes;
+      placed = p;
+      payload =
+          ap (λ (x : List ℕ). part (placedIn (taken .answer) frame bytes′) (getD x 0 0) (getD x 1 0)) p
+          ∙ payload-stands (stateOf words) frame bytes bits bytes′ bits′ taken takes;
+    }
+
+pub freed-of : {words bytes bits words′ bits′ : List ℕ} {number : ℕ} {state : State} (taken : Taken)
+    → state ≡ stateOf words → Releases state bytes bits bits′ taken → Tells words words′ taken number → Freed words bytes bits words′ bits′ number
+freed-of {words} {bytes} {bits} {words′} {bits′} {number} {state} taken e r s =
+    let releases : Releases (stateOf words) bytes bits bits′ taken = subst (λ (x : State). Releases x bytes bits bits′ taken) e r in
+    record {
+      taken = taken;
+      releases = releases;
+      tells = s;
+      next = s .read ∙ released-as (stateOf words) bytes bits bits′ taken releases;
+    }

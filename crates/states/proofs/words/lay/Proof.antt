@@ -1,0 +1,20 @@
+-- `lay` meets its contract: the numbers of its types fit them.
+use mathlib.Core.Path.{refl}
+use native.Mathlib.Omega.{arith}
+use Rattle.states.specs.Words.{laid}
+use borrow.Author.Needs.{needs}
+use Rattle.states.proofs.words.lay.Statement.{statement}
+use Rattle.states.proofs.words.lay.Tie as tie
+
+cast-t4 : tie.Need-cast-t4
+cast-t4 c = search needs
+
+cast-t5 : tie.Need-cast-t5
+cast-t5 c = search needs
+
+returns : tie.Need-returns
+unfolding laid
+returns c = (refl, (omega arith, omega arith), omega arith)
+
+pub lay-spec : {M : Type 1} → statement M
+lay-spec = tie.close (tie.spec cast-t4 cast-t5 returns)
