@@ -11,7 +11,7 @@
  * Numbers are the machine's own, ports, sequence numbers, ids and checksums too: do not call htons. Addresses and MACs
  * are bytes in the order of the wire.
  *
- * The number that every call but yavoledu_read answers is document 01's (the customer's), and so are its values:
+ * The number that yavoledu_send and the builders answer is document 01's (the customer's), and so are its values:
  *
  *   number              values[0]              values[1]    changed, besides values
  *   0 drop              0                      0            at most the xid
@@ -54,6 +54,17 @@ typedef struct {
     uint32_t xid; /* of the last DHCP message that was looked into: 240 bytes or more, first byte 1, not refused */
 } yavoledu_guest;
 
+/* The state of a guest's store, in which fragments are put together: yavoledu_take and yavoledu_release read and write it.
+ * Each of the six may hold any number. Lend it to yavoledu_release before the first yavoledu_take. */
+typedef struct {
+    uint32_t phase;    /* 0 empty, 1 filling, 2 filling with the end known; 3, and every other number, complete */
+    uint32_t source;   /* the datagram's name: its addresses, the first byte the highest, */
+    uint32_t target;
+    uint32_t protocol; /* its protocol, by the low 8 bits, */
+    uint32_t id;       /* and its id, by the low 16 */
+    uint32_t end;      /* the length of its payload, by the low 16 bits, in phases 2 and 3 */
+} yavoledu_state;
+
 #if defined(__cplusplus) && __cplusplus >= 201103L
 #define YAVOLEDU_HOLDS(fact) static_assert(fact, #fact)
 #elif defined(__STDC_VERSION__) && __STDC_VERSION__ >= 201112L
@@ -65,6 +76,7 @@ YAVOLEDU_HOLDS(sizeof(size_t) == 8);
 YAVOLEDU_HOLDS(sizeof(yavoledu_guest) == 12);
 YAVOLEDU_HOLDS(offsetof(yavoledu_guest, id) == 6);
 YAVOLEDU_HOLDS(offsetof(yavoledu_guest, xid) == 8);
+YAVOLEDU_HOLDS(sizeof(yavoledu_state) == 6 * sizeof(uint32_t));
 #undef YAVOLEDU_HOLDS
 
 /* What a frame of this guest gets. The data of 2 and 3 is the frame's own: frame + values[0], values[1] bytes.
@@ -109,6 +121,48 @@ enum {
  * at 6 ICMP, UDP or TCP; at 9 the DHCP message, whose payload is its options; at 12 the DHCP message type. What a kind
  * doesn't have is 0. A DHCP message of many options takes stack, at most 40 kB; every other call here less than 1 kB. */
 uint32_t yavoledu_read(const uint8_t *frame, size_t frame_len, size_t parts[13]);
+
+/* What the calls on a store answer: document 02's refusals, in the order of their tests, and four numbers of ours. */
+enum {
+    YAVOLEDU_UNFIT = 10,     /* the store is lent at another size, the frame is no IPv4 packet with a sound header, or its
+                              * fragment has a bad length or goes past 65,515 */
+    YAVOLEDU_HELD = 11,      /* the store holds a complete datagram, or another one */
+    YAVOLEDU_OVERLAP = 12,   /* a block of eight bytes is already there */
+    YAVOLEDU_WRONG_END = 13, /* a second last, a fragment past the known end, or a last before a stored block */
+    YAVOLEDU_PASSED = 20,
+    YAVOLEDU_STORED = 21,
+    YAVOLEDU_COMPLETE = 22,
+    YAVOLEDU_RELEASED = 23
+};
+
+/* The size of a store, in bytes and in words of 64 bits. At every other size both calls answer 10. */
+enum {
+    YAVOLEDU_STORE_BYTES = 65515,
+    YAVOLEDU_STORE_BITS = 128
+};
+
+/* Reassembly of IPv4 fragments. A host keeps for each guest a store: a state, 65,515 bytes for the payload of one datagram,
+ * and 128 words with a bit for each eight of them. bytes_len counts bytes and bits_len words. No call looks at a byte that
+ * no fragment has put there, so only state and bits have to be empty before the first frame: yavoledu_release does that.
+ *
+ *   answer            payload[0]   payload[1]   changed, besides payload
+ *   20 passed         its start    its length   nothing
+ *   21 stored         0            0            the state; the fragment's bytes, at its offset, and its bits
+ *   22 complete       0            its length   the same
+ *   23 released       -            -            the state and the bits, which are then all 0
+ *   10, 11, 12, 13    0            0            nothing
+ *
+ * On 20 the frame holds a whole datagram, whose payload is the frame's own: frame + payload[0], payload[1] bytes. On 22 the
+ * datagram that the state names is complete, and its payload is the store's first payload[1] bytes; it stands until it is
+ * released. (Where the state lent is none that a call has left, its end may be past the store; then payload[1] is 0.)
+ * yavoledu_send looks at no store: what to do with a payload that was put together, the host decides. */
+
+/* Takes a guest's frame into its store. A fragment costs its own bytes and a pass over the 128 words, at any offset. */
+uint32_t yavoledu_take(yavoledu_state *state, const uint8_t *frame, size_t frame_len, uint8_t *bytes, size_t bytes_len,
+                       uint64_t *bits, size_t bits_len, size_t payload[2]);
+
+/* Empties the store, at any time: 23, or 10 where it is lent at another size. The bytes are left as they are. */
+uint32_t yavoledu_release(yavoledu_state *state, const uint8_t *bytes, size_t bytes_len, uint64_t *bits, size_t bits_len);
 
 #ifdef __cplusplus
 }
