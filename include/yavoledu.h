@@ -6,7 +6,7 @@
  *   - what is written is no part of anything else that is lent: a reply does not overlap its frame, nor out its payload.
  *     (The id and the MAC of one record, lent to a builder, do not overlap.)
  * What is lent to be written may hold anything. No function allocates, keeps what it is lent, has data of its own, or
- * calls anything but memcpy; any number of threads may call at once that lend different memory.
+ * calls anything but memcpy and memset; any number of threads may call at once that lend different memory.
  *
  * Numbers are the machine's own, ports, sequence numbers, ids and checksums too: do not call htons. Addresses and MACs
  * are bytes in the order of the wire.

@@ -23,6 +23,20 @@ pub(crate) struct Parts {
 
 const _: () = assert!(size_of::<Parts>() == 13 * size_of::<usize>());
 
+/// The state of a store, as the header's six words.
+#[repr(C)]
+#[derive(Clone, Copy, Debug, Default, PartialEq, Eq)]
+pub(crate) struct State {
+    pub(crate) phase: u32,
+    pub(crate) source: u32,
+    pub(crate) target: u32,
+    pub(crate) protocol: u32,
+    pub(crate) id: u32,
+    pub(crate) end: u32,
+}
+
+const _: () = assert!(size_of::<State>() == 6 * size_of::<u32>());
+
 const ABSENT: Layer = Layer {
     header: 0,
     payload: 0,
@@ -82,6 +96,25 @@ unsafe extern "C" {
     fn yavoledu_checksum(data: *const u8, data_len: usize) -> u16;
 
     fn yavoledu_read(frame: *const u8, frame_len: usize, parts: *mut Parts) -> u32;
+
+    fn yavoledu_take(
+        state: *mut State,
+        frame: *const u8,
+        frame_len: usize,
+        bytes: *mut u8,
+        bytes_len: usize,
+        bits: *mut u64,
+        bits_len: usize,
+        payload: *mut Values,
+    ) -> u32;
+
+    fn yavoledu_release(
+        state: *mut State,
+        bytes: *const u8,
+        bytes_len: usize,
+        bits: *mut u64,
+        bits_len: usize,
+    ) -> u32;
 }
 
 pub(crate) fn send(guest: &mut Guest, frame: &[u8], reply: &mut [u8]) -> (u32, Values) {
@@ -200,6 +233,42 @@ pub(crate) fn read(frame: &[u8]) -> (u32, Parts) {
     (kind, parts)
 }
 
+pub(crate) fn take(
+    state: &mut State,
+    frame: &[u8],
+    bytes: &mut [u8],
+    bits: &mut [u64],
+) -> (u32, Values) {
+    let mut payload = [0; 2];
+    // SAFETY: each pointer comes from a reference to as much as the header asks, and `State` is laid out as its six words.
+    let number = unsafe {
+        yavoledu_take(
+            state,
+            frame.as_ptr(),
+            frame.len(),
+            bytes.as_mut_ptr(),
+            bytes.len(),
+            bits.as_mut_ptr(),
+            bits.len(),
+            &mut payload,
+        )
+    };
+    (number, payload)
+}
+
+pub(crate) fn release(state: &mut State, bytes: &[u8], bits: &mut [u64]) -> u32 {
+    // SAFETY: as in `take`.
+    unsafe {
+        yavoledu_release(
+            state,
+            bytes.as_ptr(),
+            bytes.len(),
+            bits.as_mut_ptr(),
+            bits.len(),
+        )
+    }
+}
+
 #[cfg(test)]
 mod tests {
     use super::*;
@@ -299,5 +368,162 @@ mod tests {
         };
         assert_eq!(number, 5);
         assert_eq!(values, guarded([10, 0]));
+    }
+
+    const SIZED: (usize, usize) = (65_515, 128);
+
+    /// A state whose six words are told apart, the phase in its range.
+    const FILLING: State = State {
+        phase: 1,
+        source: 0x0a00_020f,
+        target: 0xc000_0201,
+        protocol: 17,
+        id: 7,
+        end: 0,
+    };
+
+    /// Eight bytes of the datagram of `FILLING` at this offset, and more come.
+    fn fragment(offset: u16) -> [u8; 42] {
+        let mut frame = [0xd1; 42];
+        frame[12..14].copy_from_slice(&[8, 0]);
+        let [high, low] = (0x2000 | (offset / 8)).to_be_bytes();
+        let header = [0x45, 0, 0, 28, 0, 7, high, low, 64, 17, 0, 0];
+        frame[14..26].copy_from_slice(&header);
+        frame[26..34].copy_from_slice(&[10, 0, 2, 15, 192, 0, 2, 1]);
+        let sum: u32 = frame[14..34]
+            .chunks(2)
+            .map(|word| u32::from(word[0]) * 256 + u32::from(word[1]))
+            .sum();
+        let checksum = 65_535 - (sum - 1) % 65_535 - 1;
+        frame[24..26].copy_from_slice(&(checksum as u16).to_be_bytes());
+        frame
+    }
+
+    #[test]
+    fn a_state_is_read_and_written_word_by_word() {
+        let mut state = guarded(FILLING);
+        let (mut bytes, mut bits) = ([0x77; 65_515], [0; 128]);
+        let taken = take(&mut state.value, &fragment(0), &mut bytes, &mut bits);
+        assert_eq!(taken, (21, [0, 0]));
+        assert_eq!(state, guarded(FILLING));
+        assert_eq!((&bytes[..8], bytes[8]), (&[0xd1; 8][..], 0x77));
+        assert_eq!((bits[0], bits[1]), (1, 0));
+        for another in [
+            State {
+                source: 1,
+                ..FILLING
+            },
+            State {
+                target: 1,
+                ..FILLING
+            },
+            State {
+                protocol: 1,
+                ..FILLING
+            },
+            State { id: 1, ..FILLING },
+            State {
+                phase: 3,
+                ..FILLING
+            },
+            State {
+                phase: 4,
+                ..FILLING
+            },
+            State {
+                phase: u32::MAX,
+                ..FILLING
+            },
+        ] {
+            let mut state = guarded(another);
+            let taken = take(&mut state.value, &fragment(8), &mut bytes, &mut bits);
+            assert_eq!(taken, (11, [0, 0]));
+            assert_eq!(state, guarded(another));
+        }
+        // The end is read in phase 2 alone, and protocol, id and end by their low bits.
+        let ends = |phase, end| State {
+            phase,
+            end,
+            ..FILLING
+        };
+        let high = State {
+            protocol: 0xabcd_ef11,
+            id: 0xabcd_0007,
+            ..FILLING
+        };
+        for (state, answer) in [
+            (ends(1, 8), 21),
+            (ends(2, 15), 13),
+            (ends(2, 0xffff_000f), 13),
+            (ends(2, 0xffff_0011), 21),
+            (high, 21),
+        ] {
+            let mut state = guarded(state);
+            let mut bits = [0; 128];
+            let taken = take(&mut state.value, &fragment(8), &mut bytes, &mut bits);
+            assert_eq!(taken, (answer, [0, 0]));
+            assert_eq!((state.before, state.after), ([GUARD; 8], [GUARD; 8]));
+        }
+    }
+
+    #[test]
+    fn at_another_size_both_calls_answer_10_and_change_nothing() {
+        let mut bytes = [0x77; SIZED.0 + 1];
+        let mut bits = [0x5555; SIZED.1 + 1];
+        let sizes = [
+            (SIZED.0 - 1, SIZED.1),
+            (SIZED.0 + 1, SIZED.1),
+            (SIZED.0, SIZED.1 - 1),
+            (SIZED.0, SIZED.1 + 1),
+            (0, 0),
+        ];
+        for (many, words) in sizes {
+            let mut state = guarded(FILLING);
+            let (bytes, bits) = (&mut bytes[..many], &mut bits[..words]);
+            assert_eq!(
+                take(&mut state.value, &fragment(0), bytes, bits),
+                (10, [0, 0])
+            );
+            assert_eq!(release(&mut state.value, bytes, bits), 10);
+            assert_eq!(state, guarded(FILLING));
+        }
+        assert!(bytes.iter().all(|byte| *byte == 0x77));
+        assert!(bits.iter().all(|word| *word == 0x5555));
+    }
+
+    #[test]
+    fn a_release_writes_the_six_words_and_the_bits_and_nothing_else() {
+        let mut state = guarded(State {
+            phase: 9,
+            end: 1,
+            ..FILLING
+        });
+        let bytes = [0x77; SIZED.0];
+        let mut bits = guarded([u64::MAX; SIZED.1]);
+        assert_eq!(release(&mut state.value, &bytes, &mut bits.value), 23);
+        assert_eq!(state, guarded(State::default()));
+        assert_eq!(bits, guarded([0; SIZED.1]));
+    }
+
+    #[test]
+    fn an_end_past_the_store_hands_out_nothing() {
+        // No call leaves such a state: every block but the first is there, and the end is 65,535.
+        let mut state = State {
+            phase: 2,
+            end: 65_535,
+            ..FILLING
+        };
+        let (mut bytes, mut bits) = ([0; SIZED.0], [u64::MAX; SIZED.1]);
+        bits[0] = u64::MAX - 1;
+        let taken = take(&mut state, &fragment(0), &mut bytes, &mut bits);
+        assert_eq!(taken, (22, [0, 0]));
+        assert_eq!(
+            state,
+            State {
+                phase: 3,
+                end: 65_535,
+                ..FILLING
+            }
+        );
     }
 }

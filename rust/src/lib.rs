@@ -25,7 +25,7 @@
 //! The rules are those of document 01, the customer's.
 //!
 //! Beside the gateway stand the builders of frames ([`Guest::make_ip_frame`], [`Guest::make_tcp_frame`], [`make_udp_payload`]),
-//! the [`checksum`], and a strict reader ([`read`]).
+//! the [`checksum`], a strict reader ([`read`]), and a store in which fragments are put together ([`Store`]).
 //!
 //! # What is proved
 //!
@@ -42,6 +42,7 @@ mod builders;
 mod ffi;
 mod guest;
 mod reading;
+mod store;
 mod verdict;
 
 // The README's example is compiled and run with the others.
@@ -52,4 +53,5 @@ struct Readme;
 pub use builders::{Endpoints, checksum, make_udp_payload};
 pub use guest::Guest;
 pub use reading::{Layer, Reading, read};
+pub use store::{Datagram, STORE_BYTES, STORE_WORDS, Store, Taken, Unstored};
 pub use verdict::{Refusal, Verdict};

@@ -6,6 +6,7 @@ mod checksum;
 mod frames;
 mod layout;
 mod reader;
+mod reassembly;
 mod refusals;
 mod replies;
 mod verdicts;
