@@ -1,10 +1,10 @@
 -- The parts of a call on a store, put together.
 use Prim.Native.Nat.{ℕ}
 use mathlib.Core.List.{List}
-use mathlib.Core.Path.{_≡_, ap, sym, _∙_, subst}
+use mathlib.Core.Path.{_≡_, ap, _∙_, subst}
 use lib.ListN.{length, getD}
 use Rattle.fields.specs.Bytes.{part}
-use Rattle.fragments.specs.Promises.{Takes, Releases, payloadOf}
+use Rattle.fragments.specs.Promises.{Takes, Releases}
 use Rattle.fragments.specs.declared.answer.State.{State}
 use Rattle.fragments.specs.declared.answer.Taken.{Taken}
 use Rattle.host.specs.Reassembly.{Took, Freed}
@@ -13,10 +13,10 @@ use Rattle.states.specs.Told.{Tells, placeOf, placedIn}
 use Rattle.states.specs.Words.{stateOf}
 
 pub took-of : {words frame bytes bits words′ bytes′ bits′ place : List ℕ} {number : ℕ} {state : State} (taken : Taken)
-    → state ≡ stateOf words → Takes state frame bytes bits bytes′ bits′ taken
-    → place ≡ placeOf (taken .answer) (taken .state) frame (length bytes′) → Tells words words′ taken number
+    → Tells words words′ taken number → state ≡ stateOf words → Takes state frame bytes bits bytes′ bits′ taken
+    → place ≡ placeOf (taken .answer) (taken .state) frame (length bytes′)
     → Took words frame bytes bits words′ bytes′ bits′ place number
-took-of {words} {frame} {bytes} {bits} {words′} {bytes′} {bits′} {place} {number} {state} taken e t p s =
+took-of {words} {frame} {bytes} {bits} {words′} {bytes′} {bits′} {place} {number} {state} taken s e t p =
     let takes : Takes (stateOf words) frame bytes bits bytes′ bits′ taken = subst (λ (x : State). Takes x frame bytes bits bytes′ bits′ taken) e t in
     record {
       taken = taken;
@@ -30,8 +30,8 @@ took-of {words} {frame} {bytes} {bits} {words′} {bytes′} {bits′} {place} {
     }
 
 pub freed-of : {words bytes bits words′ bits′ : List ℕ} {number : ℕ} {state : State} (taken : Taken)
-    → state ≡ stateOf words → Releases state bytes bits bits′ taken → Tells words words′ taken number → Freed words bytes bits words′ bits′ number
-freed-of {words} {bytes} {bits} {words′} {bits′} {number} {state} taken e r s =
+    → Tells words words′ taken number → state ≡ stateOf words → Releases state bytes bits bits′ taken → Freed words bytes bits words′ bits′ number
+freed-of {words} {bytes} {bits} {words′} {bits′} {number} {state} taken s e r =
     let releases : Releases (stateOf words) bytes bits bits′ taken = subst (λ (x : State). Releases x bytes bits bits′ taken) e r in
     record {
       taken = taken;

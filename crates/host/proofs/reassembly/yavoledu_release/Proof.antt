@@ -17,7 +17,8 @@ same-length : tie.Need-same-length
 same-length c = search needs
 
 returns : tie.Need-returns
-returns c = freed-of (c .before .before .before .before .release .result) (c .before .before .before .before .before .before .state-of .ensures) (c .before .before .before .before .release .ensures) (c .tell .ensures)
+returns c =
+    freed-of (c .before .before .before .before .release .result) (c .tell .ensures) (c .before .before .before .before .before .before .state-of .ensures) (c .before .before .before .before .release .ensures)
 
 pub yavoledu-release-spec : {M : Type 1} → statement M
 yavoledu-release-spec =

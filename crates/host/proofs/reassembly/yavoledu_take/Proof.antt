@@ -23,7 +23,8 @@ same-length-2 : tie.Need-same-length-2
 same-length-2 c = search needs
 
 returns : tie.Need-returns
-returns c = took-of (c .before .before .before .before .before .before .before .take .result) (c .before .before .before .before .before .before .before .before .before .before .state-of .ensures) (c .before .before .before .before .before .before .before .take .ensures) (c .before .before .place .ensures) (c .tell .ensures)
+returns c =
+    took-of (c .before .before .before .before .before .before .before .take .result) (c .tell .ensures) (c .before .before .before .before .before .before .before .before .before .before .state-of .ensures) (c .before .before .before .before .before .before .before .take .ensures) (c .before .before .place .ensures)
 
 pub yavoledu-take-spec : {M : Type 1} → statement M
 yavoledu-take-spec =
