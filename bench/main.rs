@@ -1,5 +1,6 @@
 //! Times the published Rust and the proved library in one process: bench/run says how it is run.
 
+mod callgrind;
 #[allow(dead_code)]
 #[path = "../oracle/draws.rs"]
 mod draws;
@@ -11,6 +12,7 @@ mod inputs;
 #[path = "../oracle/mended.rs"]
 mod mended;
 mod ours;
+mod reassembly;
 mod rounds;
 mod rows;
 mod stack;
@@ -40,16 +42,22 @@ fn main() {
 }
 
 fn print_table(instructions: &str) {
+    let mut counts = per_call(instructions).into_iter();
+    print_beside_the_rust(&mut counts);
+    println!();
+    print_reassembly(&mut counts);
+}
+
+fn print_beside_the_rust(counts: &mut impl Iterator<Item = u64>) {
     let mut rows = rows::all();
     let times = rounds::timed(&mut rows);
-    let mut counts = per_call(instructions).into_iter();
     println!(
         "| call | Rust, ns | ours, ns | ratio | goal | Rust, instructions | ours, instructions |"
     );
     println!("|---|--:|--:|--:|---|--:|--:|");
     for (row, (rust, ours)) in rows.iter().zip(times) {
-        let (rust_time, ratio, goal, rust_count) = match (&row.rust, rust) {
-            (Some((_, goal)), Some(rust)) => {
+        let (rust_time, ratio, goal, rust_count) = match (row.goal, rust) {
+            (Some(goal), Some(rust)) => {
                 let ratio = ours.best / rust.best;
                 let word = if ratio <= goal.0 { "met" } else { "missed" };
                 let goal = format!("{:.1}: {word}", goal.0);
@@ -66,6 +74,26 @@ fn print_table(instructions: &str) {
         let our_time = time(&ours);
         println!(
             "| {} | {rust_time} | {our_time} | {ratio} | {goal} | {rust_count} | {our_count} |",
+            row.name
+        );
+    }
+}
+
+fn print_reassembly(counts: &mut impl Iterator<Item = u64>) {
+    let mut rows = reassembly::all();
+    let times = rounds::timed(&mut rows);
+    println!(
+        "| call on a store | ours, ns | memcpy, ns | ours, instructions | memcpy, instructions |"
+    );
+    println!("|---|--:|--:|--:|--:|");
+    for (row, (memcpy, ours)) in rows.iter().zip(times) {
+        let (memcpy_time, memcpy_count) = match memcpy {
+            Some(memcpy) => (time(&memcpy), count_of(counts.next())),
+            None => ("-".to_string(), "-".to_string()),
+        };
+        let (our_time, our_count) = (time(&ours), count_of(counts.next()));
+        println!(
+            "| {} | {our_time} | {memcpy_time} | {our_count} | {memcpy_count} |",
             row.name
         );
     }
@@ -101,11 +129,11 @@ fn count_of(instructions: Option<u64>) -> String {
 /// How many calls are counted, once and once more: their difference leaves out what is not a call's.
 const COUNTED: [u64; 2] = [100, 200];
 
-/// Each side of each row in `bench_counted`, at whose ends callgrind writes down the instructions.
+/// Each side of each row in `bench_counted`, at whose ends callgrind writes down the instructions: on x86-64 it is told the
+/// name, and on Arm, where it loses sight of a function's end, it is asked.
 fn count() {
-    for row in &mut rows::all() {
-        let rust = row.rust.as_mut().map(|(calls, _)| calls);
-        for calls in rust.into_iter().chain([&mut row.ours]) {
+    for row in rows::all().iter_mut().chain(&mut reassembly::all()) {
+        for calls in row.beside.as_mut().into_iter().chain([&mut row.ours]) {
             calls(COUNTED[0]);
             for number in COUNTED {
                 bench_counted(calls, number);
@@ -117,7 +145,9 @@ fn count() {
 #[unsafe(no_mangle)]
 #[inline(never)]
 fn bench_counted(calls: &mut Calls, number: u64) {
+    callgrind::zero();
     calls(number);
+    callgrind::dump();
 }
 
 /// What one call took, by the lines with both numbers of each side.

@@ -17,6 +17,25 @@ pub const KIND_UDP: u32 = 3;
 pub const KIND_DHCP: u32 = 4;
 pub const KIND_TCP: u32 = 5;
 
+/// What the calls on a store answer.
+pub const UNFIT: u32 = 10;
+pub const OVERLAP: u32 = 12;
+pub const PASSED: u32 = 20;
+pub const STORED: u32 = 21;
+pub const COMPLETE: u32 = 22;
+pub const RELEASED: u32 = 23;
+
+#[derive(Clone, Copy, Debug, PartialEq)]
+#[repr(C)]
+pub struct State {
+    pub phase: u32,
+    pub source: u32,
+    pub target: u32,
+    pub protocol: u32,
+    pub id: u32,
+    pub end: u32,
+}
+
 #[derive(Clone, Copy, Debug, PartialEq)]
 #[repr(C)]
 pub struct Guest {
@@ -78,4 +97,23 @@ unsafe extern "C" {
     pub fn yavoledu_checksum(data: *const u8, data_len: usize) -> u16;
 
     pub fn yavoledu_read(frame: *const u8, frame_len: usize, parts: *mut [usize; 13]) -> u32;
+
+    pub fn yavoledu_take(
+        state: *mut State,
+        frame: *const u8,
+        frame_len: usize,
+        bytes: *mut u8,
+        bytes_len: usize,
+        bits: *mut u64,
+        bits_len: usize,
+        payload: *mut [usize; 2],
+    ) -> u32;
+
+    pub fn yavoledu_release(
+        state: *mut State,
+        bytes: *const u8,
+        bytes_len: usize,
+        bits: *mut u64,
+        bits_len: usize,
+    ) -> u32;
 }

@@ -81,23 +81,23 @@ fn enough(calls: &mut Calls) -> u64 {
     number
 }
 
-/// The Rust's time, where there is a Rust, and ours.
+/// The time of what stands beside ours, where something does, and ours.
 pub fn timed(rows: &mut [Row]) -> Vec<(Option<Timed>, Timed)> {
     let mut sides: Vec<(Option<Side>, Side)> = rows
         .iter_mut()
         .map(|row| {
-            let rust = row.rust.as_mut().map(|(calls, _)| Side::new(calls));
-            (rust, Side::new(&mut row.ours))
+            let beside = row.beside.as_mut().map(Side::new);
+            (beside, Side::new(&mut row.ours))
         })
         .collect();
     for round in 0..ROUNDS {
-        for (rust, ours) in &mut sides {
+        for (beside, ours) in &mut sides {
             let ours_first = round % 2 == 1;
             if ours_first {
                 ours.round();
             }
-            if let Some(rust) = rust {
-                rust.round();
+            if let Some(beside) = beside {
+                beside.round();
             }
             if !ours_first {
                 ours.round();
@@ -106,6 +106,6 @@ pub fn timed(rows: &mut [Row]) -> Vec<(Option<Timed>, Timed)> {
     }
     sides
         .into_iter()
-        .map(|(rust, ours)| (rust.map(Side::timed), ours.timed()))
+        .map(|(beside, ours)| (beside.map(Side::timed), ours.timed()))
         .collect()
 }

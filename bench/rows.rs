@@ -16,8 +16,9 @@ pub type Calls = Box<dyn FnMut(u64)>;
 
 pub struct Row {
     pub name: &'static str,
-    /// The reader has no Rust behind it, and no goal.
-    pub rust: Option<(Calls, Goal)>,
+    /// What ours is held to, where there is something: the Rust or, in the table of reassembly, memcpy.
+    pub beside: Option<Calls>,
+    pub goal: Option<Goal>,
     pub ours: Calls,
 }
 
@@ -38,6 +39,7 @@ enum Queue {
 /// Room for the longest frame.
 pub const ROOM: usize = 65_549;
 
+/// The rows of the gateway, the builders, the checksum and the reader, which has no Rust beside it.
 pub fn all() -> Vec<Row> {
     let replied = |name, goal, frame| gateway(name, goal, frame, ours::REPLY, Queue::LookedInto);
     let handed_on =
@@ -94,7 +96,7 @@ pub fn all() -> Vec<Row> {
     ]
 }
 
-fn calls(mut call: impl FnMut() + 'static) -> Calls {
+pub fn calls(mut call: impl FnMut() + 'static) -> Calls {
     Box::new(move |calls| {
         for _ in 0..calls {
             call();
@@ -120,7 +122,8 @@ fn gateway(name: &'static str, goal: Goal, frame: Vec<u8>, verdict: u32, queue: 
     });
     Row {
         name,
-        rust: Some((rust, goal)),
+        beside: Some(rust),
+        goal: Some(goal),
         ours,
     }
 }
@@ -216,12 +219,10 @@ fn segment(name: &'static str, len: usize) -> Row {
     assert!(out[..values[0]] == expected, "{name}");
     Row {
         name,
-        rust: Some((
-            calls(move || {
-                black_box(&rust_frame());
-            }),
-            RULED_BY_THE_SUM,
-        )),
+        beside: Some(calls(move || {
+            black_box(&rust_frame());
+        })),
+        goal: Some(RULED_BY_THE_SUM),
         ours: calls(move || {
             black_box(our_frame(&mut id, &mut out, &mut values));
         }),
@@ -238,12 +239,10 @@ fn checksum(name: &'static str, len: usize) -> Row {
     assert_eq!(rust_sum(), our_sum(), "{name}");
     Row {
         name,
-        rust: Some((
-            calls(move || {
-                black_box(rust_sum());
-            }),
-            RULED_BY_THE_SUM,
-        )),
+        beside: Some(calls(move || {
+            black_box(rust_sum());
+        })),
+        goal: Some(RULED_BY_THE_SUM),
         ours: calls(move || {
             black_box(our_sum());
         }),
@@ -258,7 +257,8 @@ fn empty_call(name: &'static str, frame: Vec<u8>) -> Row {
     });
     Row {
         name,
-        rust: None,
+        beside: None,
+        goal: None,
         ours,
     }
 }
@@ -283,7 +283,8 @@ fn reading(name: &'static str, frame: Vec<u8>, kind: u32) -> Row {
     });
     Row {
         name,
-        rust: None,
+        beside: None,
+        goal: None,
         ours,
     }
 }

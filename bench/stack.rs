@@ -10,6 +10,7 @@ use crate::draws::{BROADCAST_IP, GATEWAY_IP, GUEST_MAC};
 use crate::guest_frames::dns_query;
 use crate::inputs;
 use crate::ours::{self, Guest};
+use crate::reassembly;
 use crate::rows::ROOM;
 
 pub struct Deepest {
@@ -38,6 +39,8 @@ pub fn measured() -> Vec<Deepest> {
         ("`yavoledu_read`, no long list", reads()),
         ("`yavoledu_read`, long lists", reads_of_long_lists()),
         ("`yavoledu_read`, pads alone", reads_of_pads()),
+        ("`yavoledu_take`", takes()),
+        ("`yavoledu_release`", releases()),
     ];
     let deepest = |(export, inputs): (&'static str, Vec<Input>)| {
         let measured = inputs.into_iter().map(|input| Deepest {
@@ -186,6 +189,40 @@ fn reads_of_long_lists() -> Vec<Input> {
 fn reads_of_pads() -> Vec<Input> {
     let pads = inputs::nothing_but_pads();
     vec![read("1,232 items, outside it", pads, ours::OUTSIDE)]
+}
+
+fn takes() -> Vec<Input> {
+    let part = |offset, more, len| reassembly::fragment(offset, more, &inputs::filling(len));
+    vec![
+        taking("a frame that passes", part(0, false, 1_480), ours::PASSED),
+        taking("8 bytes", part(65_504, true, 8), ours::STORED),
+        taking("1,480 bytes", part(40_000, true, 1_480), ours::STORED),
+        taking("a last one", part(64_032, false, 1_480), ours::STORED),
+        taking("a refusal 12", part(0, true, 1_480), ours::OVERLAP),
+        taking("no byte", vec![], ours::UNFIT),
+    ]
+}
+
+fn releases() -> Vec<Input> {
+    let call = Box::new(move || {
+        let mut store = reassembly::half_full();
+        let here = stack_pointer();
+        (here, reassembly::release(&mut store))
+    });
+    vec![Input {
+        name: "a store half full",
+        call,
+        answer: ours::RELEASED,
+    }]
+}
+
+fn taking(name: &'static str, frame: Vec<u8>, answer: u32) -> Input {
+    let call = Box::new(move || {
+        let (mut store, mut place) = (reassembly::half_full(), [0; 2]);
+        let here = stack_pointer();
+        (here, reassembly::take(&mut store, &frame, &mut place))
+    });
+    Input { name, call, answer }
 }
 
 fn send(name: &'static str, frame: Vec<u8>, room: usize, answer: u32) -> Input {
