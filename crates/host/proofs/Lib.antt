@@ -1,4 +1,5 @@
 pub mod OneAnswer
+pub mod OneStore
 pub mod Reassembling
 pub mod Room
 pub mod Telling
