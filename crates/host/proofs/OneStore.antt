@@ -1,7 +1,7 @@
 -- The contracts of the calls on a store leave one answer: number, words, bytes, bits and place.
 use Prim.Native.Nat.{ℕ}
 use mathlib.Core.List.{List}
-use mathlib.Core.Path.{_≡_, refl, ap, ap₂, sym, _∙_}
+use mathlib.Core.Path.{_≡_, ap, ap₂, sym, _∙_}
 use lib.ListN.{length}
 use Rattle.blocks.specs.Bitmap.{bit}
 use Rattle.frames.specs.Pick.{pick}

@@ -1,5 +1,5 @@
 -- Where a call says the payload stands, it stands; and the words that a call leaves are read as the state that the store is in.
-use Prim.Native.Nat.{ℕ, _+_}
+use Prim.Native.Nat.{ℕ, _+_, _<_}
 use mathlib.Core.Bool.{Bool, true, false, not}
 use mathlib.Core.List.{List, []}
 use mathlib.Core.Path.{_≡_, refl, ap, sym, _∙_}
@@ -12,7 +12,7 @@ use Rattle.fields.specs.Rfc791.{headerLength}
 use Rattle.fields.specs.Rfc894.{body}
 use Rattle.frames.specs.Pick.{pick}
 use Rattle.fragments.specs.Answer.{Said, passed, stored, complete, released, refused, paper}
-use Rattle.fragments.specs.Promises.{Does, Takes, Releases, payloadOf, wholePayload, storedPayload}
+use Rattle.fragments.specs.Promises.{Untouched, Does, Takes, Releases, payloadOf, wholePayload, storedPayload}
 use Rattle.fragments.specs.Rfc791.{sound, isWhole, goodLength, moreFragments, fragmentOffset, packetOf, payloadLength, fragmentOf}
 use Rattle.fragments.specs.Rules.{Outcome, blocksOf, ofSize, isHeld, overlaps, wrongEnd, knownEnd, endWith, ruling, packetRuling, partRuling, outcomeOf, settled}
 use Rattle.fragments.specs.declared.answer.Answer.{Answer}
@@ -28,7 +28,7 @@ use Rattle.fragments.specs.declared.packet.Packet.{Packet}
 use Rattle.fragments.specs.declared.packet.Packet.the-variants.{Unfit, Whole, Part}
 use Rattle.fragments.specs.declared.ruling.Ruling.{Ruling}
 use Rattle.fragments.specs.declared.ruling.Ruling.the-variants.{Refuse, Pass, Store}
-use Rattle.states.specs.Told.{changes, placeOf, storedPlace, placedIn}
+use Rattle.states.specs.Told.{numberOf, changes, placeOf, storedPlace, placedIn}
 
 either : (b : Bool) (after before : State) → after ≡ before → pick b after before ≡ after
 either true after before e = refl
@@ -69,6 +69,29 @@ unfolding outcomeOf
 read-as (Refuse answer) state frame bytes words bytes′ words′ taken d = either (changes (paper (taken .answer))) (taken .state) state (d .next)
 read-as Pass state frame bytes words bytes′ words′ taken d = either (changes (paper (taken .answer))) (taken .state) state (d .next)
 read-as (Store f end) state frame bytes words bytes′ words′ taken d = simp (ap changes (d .answers) ∙ settled-changes (f .datagram) end _ .0)
+
+-- and leaves its bytes and bits
+pub leaves-alone : (r : Ruling) (state : State) (frame bytes words bytes′ words′ : List ℕ) (taken : Taken) → Does r state frame bytes words bytes′ words′ taken
+    → changes (paper (taken .answer)) ≡ false → Untouched bytes words bytes′ words′
+unfolding outcomeOf
+leaves-alone (Refuse answer) state frame bytes words bytes′ words′ taken d e = d .store
+leaves-alone Pass state frame bytes words bytes′ words′ taken d e = d .store
+leaves-alone (Store f end) state frame bytes words bytes′ words′ taken d e =
+    let both : true ≡ false = sym (ap changes (d .answers) ∙ settled-changes (f .datagram) end _ .0) ∙ e in
+    let z : _≡_ {A = ℕ} 0 1 = cc in
+    absurd (omega arith)
+
+-- the numbers below 21 are those of the answers without a new state
+pub low-number : (a : Answer) → numberOf (paper a) < 21 → changes (paper a) ≡ false
+unfolding numberOf changes paper
+low-number Answer.Passed l = refl
+low-number Answer.Stored l = absurd (omega (arith, l))
+low-number Answer.Complete l = absurd (omega (arith, l))
+low-number Answer.Released l = absurd (omega (arith, l))
+low-number Answer.Unfit l = refl
+low-number Answer.Held l = refl
+low-number Answer.Overlap l = refl
+low-number Answer.WrongEnd l = refl
 
 released-changes : changes released ≡ true
 unfolding changes
