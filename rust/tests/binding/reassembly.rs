@@ -1,5 +1,7 @@
 //! Trains of fragments through a store: document 02, request 4/13. The frames are put together here.
 
+use std::collections::{BTreeMap, BTreeSet};
+
 use yavoledu::{Datagram, STORE_BYTES, STORE_WORDS, Store, Taken, Unstored};
 
 use crate::frames::*;
@@ -349,4 +351,111 @@ fn a_new_store_is_empty_whatever_its_memory_holds() {
     assert_completes(&mut memory.store(), &train(&payload, 8), &payload);
     let store = memory.store();
     assert_eq!((store.datagram(), store.payload()), (None, None));
+}
+
+/// The document's rules on a set of blocks, one sentence a line.
+#[derive(Default)]
+struct Model {
+    held: Option<Datagram>,
+    blocks: BTreeSet<usize>,
+    end: Option<usize>,
+    complete: bool,
+    payload: BTreeMap<usize, u8>,
+}
+
+impl Model {
+    fn take(&mut self, name: Datagram, offset: usize, more: bool, payload: &[u8]) -> Answer {
+        let stop = offset + payload.len();
+        let blocks = offset / 8..stop.div_ceil(8);
+        if offset == 0 && !more {
+            return Answer::Passed(payload.to_vec());
+        }
+        if payload.is_empty() || more && payload.len() % 8 != 0 || stop > STORE_BYTES {
+            return Answer::Refused(Unstored::Unfit);
+        }
+        if self.complete || self.held.is_some_and(|held| held != name) {
+            return Answer::Refused(Unstored::Held);
+        }
+        if blocks.clone().any(|block| self.blocks.contains(&block)) {
+            return Answer::Refused(Unstored::Overlap);
+        }
+        let wrong = match self.end {
+            Some(end) => !more || stop > end,
+            None => !more && self.blocks.iter().any(|block| stop <= block * 8),
+        };
+        if wrong {
+            return Answer::Refused(Unstored::WrongEnd);
+        }
+        self.held = Some(name);
+        self.blocks.extend(blocks);
+        self.payload.extend((offset..).zip(payload.iter().copied()));
+        if !more {
+            self.end = Some(stop);
+        }
+        let whole = |end: usize| (0..end.div_ceil(8)).all(|block| self.blocks.contains(&block));
+        self.complete = self.end.is_some_and(whole);
+        if !self.complete {
+            return Answer::Stored;
+        }
+        Answer::Complete(self.payload.values().copied().collect())
+    }
+}
+
+#[derive(Debug, PartialEq)]
+enum Answer {
+    Passed(Vec<u8>),
+    Stored,
+    Complete(Vec<u8>),
+    Refused(Unstored),
+}
+
+impl From<Taken<'_>> for Answer {
+    fn from(taken: Taken) -> Answer {
+        match taken {
+            Taken::Passed(payload) => Answer::Passed(payload.to_vec()),
+            Taken::Stored => Answer::Stored,
+            Taken::Complete(payload) => Answer::Complete(payload.to_vec()),
+            Taken::Refused(reason) => Answer::Refused(reason),
+        }
+    }
+}
+
+/// Fragments that are drawn, of few blocks so that they meet, at the front of the store and around the places where words and
+/// the store end.
+#[test]
+fn drawn_fragments_get_what_the_document_says() {
+    let mut memory = memory();
+    let mut store = memory.store();
+    let (mut model, mut seed) = (Model::default(), 4);
+    let mut seen = [0; 7];
+    for round in 0..60_000 {
+        let places = [400, 480, 65_440, 65_512];
+        let place = *places.get(draw(&mut seed, 40)).unwrap_or(&0);
+        // The field counts blocks up to 8,191.
+        let offset = (place + 8 * draw(&mut seed, 6)).min(65_528);
+        let more = draw(&mut seed, 4) > 0;
+        let len = match draw(&mut seed, 8) {
+            0 => draw(&mut seed, 40),
+            1 => 8 * (40 + draw(&mut seed, 80)),
+            _ => 8 * (1 + draw(&mut seed, 3)),
+        };
+        let payload: Vec<u8> = (0..len).map(|_| draw(&mut seed, 256) as u8).collect();
+        let id = if draw(&mut seed, 12) == 0 { ID + 1 } else { ID };
+        let name = Datagram { id, ..NAME };
+        let expected = model.take(name, offset, more, &payload);
+        let frame = fragment_of(name, offset, more, &payload);
+        assert_eq!(Answer::from(store.take(&frame)), expected, "round {round}");
+        assert_eq!(store.datagram(), model.held, "round {round}");
+        seen[match expected {
+            Answer::Passed(_) => 0,
+            Answer::Stored => 1,
+            Answer::Complete(_) => 2,
+            Answer::Refused(reason) => 3 + reason as usize,
+        }] += 1;
+        if draw(&mut seed, if model.complete { 3 } else { 40 }) == 0 {
+            store.release();
+            model = Model::default();
+        }
+    }
+    assert!(seen.iter().all(|times| *times > 100), "{seen:?}");
 }
