@@ -131,3 +131,8 @@ pub every-order : EveryOrder
 every-order d end frames order store its calls train p v r a e =
     let out = left-out a store r in
     subst (Arrived d end frames its) (out .1) (alone d end frames order store its train p v (out .0) e)
+
+-- with nothing between, all calls are its own
+pub all-its-own : (calls : List Call) → Among calls calls
+all-its-own [] = none
+all-its-own (call ∷ calls) = its-own (all-its-own calls)

@@ -10,7 +10,8 @@ ghost use Rattle.blocks.specs.Bitmap.{bit, Marked, count as Bitmap·coun
 
 const ALL: u64 = 0xffff_ffff_ffff_ffff;
 
-// How many of the blocks from `first` up to `stop` are there.
+// How many of the blocks from `first` up to `stop` are there. It takes a turn for each word's worth of
+// blocks, also behind the last word.
 pub fn count(bits: &[u64], first: usize, stop: usize) -> usize
     ensures { λ r. ⌜ r ≡ Bitmap·count (bit (now (bits .entry))) first (stop - first) ⌝ }
 {

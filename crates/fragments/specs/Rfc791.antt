@@ -36,7 +36,7 @@ moreFragments packet = eqb (flagsAndOffset packet / 8192 % 2) 1
 unfoldable pub fragmentOffset : (packet : List ℕ) → ℕ
 fragmentOffset packet = flagsAndOffset packet % 8192 * 8
 
--- section 3.2: "If the fragment offset and the more fragments flag are both zero, this is a whole datagram"
+-- section 3.2: a datagram is whole where more-fragments and offset are both zero
 unfoldable pub isWhole : (packet : List ℕ) → Bool
 isWhole packet = not (moreFragments packet) && eqb (fragmentOffset packet) 0
 
@@ -48,7 +48,7 @@ payloadLength packet = totalLength packet - headerLength packet
 unfoldable pub goodLength : (more : Bool) (n : ℕ) → Bool
 goodLength more n = not (eqb n 0) && (not more || eqb (n % 8) 0)
 
--- section 3.2: a datagram is named by "identification, source, destination, and protocol"
+-- section 3.2: the four fields that name a datagram; "named by source, target, protocol and id"
 unfoldable pub datagramOf : (packet : List ℕ) → Datagram
 datagramOf packet =
     record {

@@ -1,6 +1,6 @@
 // What a store holds, beside its bytes and bits, and what a call answers.
 
-// A datagram's name: RFC 791, section 3.2, "the combination of identification, source, destination and protocol".
+// A datagram's name: RFC 791, section 3.2.
 pub struct Datagram {
     pub source: u32,
     pub target: u32,

@@ -1,7 +1,8 @@
 // Reassembly of IPv4 fragments: document 02, request 4/13. The host lends a store for each guest, the
 // payload's bytes and a bitmap of the blocks that have come, and hands the small rest in and out by
 // value. No function relies on checks by its caller: a store of any size, a frame of any length and any
-// state get an answer. A refusal leaves bytes, bits and state as they were.
+// state get an answer. A refusal leaves bytes, bits and state as they were. A new store is emptied by
+// `release`, whatever it holds.
 mod answer;
 mod packet;
 mod ruling;

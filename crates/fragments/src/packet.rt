@@ -18,7 +18,7 @@ const SHORTEST_FRAME: usize = 34;
 
 const SHORTEST_HEADER: usize = 20;
 
-const MOST_PAYLOAD: usize = 65515;
+pub const MOST_PAYLOAD: usize = 65515;
 
 // Fields of a packet.
 const VERSION_AND_LENGTH: usize = 0;

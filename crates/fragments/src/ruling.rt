@@ -9,10 +9,9 @@ use crate::answer::Datagram;
 use crate::answer::End;
 use crate::answer::State;
 use crate::packet::Fragment;
+use crate::packet::MOST_PAYLOAD;
 use crate::packet::Packet;
 use crate::packet::read;
-
-const BYTES: usize = 65515;
 
 const WORDS: usize = 128;
 
@@ -64,11 +63,11 @@ fn rule_part(state: State, fragment: Fragment, bits: &[u64]) -> Ruling
     Ruling::Store(fragment, end_with(fragment, end))
 }
 
-// Whether the store is lent at its size.
+// Whether the store is lent at its size: room for the longest payload, and a bit for each of its blocks.
 pub fn is_of_size(bytes: usize, words: usize) -> bool
     ensures { λ r. ⌜ r ≡ ofSize bytes words ⌝ }
 {
-    if bytes != BYTES {
+    if bytes != MOST_PAYLOAD {
         return false;
     }
     words == WORDS

@@ -88,7 +88,8 @@ fn filling(datagram: Datagram, end: End) -> Taken
 }
 
 // The payload, as a part of the frame that passed or of the store that is complete; for every other
-// answer an empty part.
+// answer an empty part. It goes by the answer: a host that has taken other frames since keeps the one
+// that said complete, or says so itself.
 pub fn payload<'a>(taken: Taken, frame: &'a [u8], bytes: &'a [u8]) -> &'a [u8]
     ensures { λ r. ⌜ now r ≡ payloadOf (taken .answer) (taken .state) (now (frame .entry)) (now (bytes .entry)) ⌝ }
 {

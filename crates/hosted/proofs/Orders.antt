@@ -3,7 +3,7 @@ use Prim.Native.Nat.{ℕ}
 use mathlib.Core.Path.{_≡_, ap, sym, subst, _∙_}
 use mathlib.Core.List.{List}
 use lib.ListN.{length, getD}
-use Rattle.arrivals.proofs.Orders.{every-order}
+use Rattle.arrivals.proofs.Orders.{every-order, all-its-own}
 use Rattle.arrivals.proofs.Standing.{released-is-vacant}
 use Rattle.arrivals.specs.Calls.{Store, Sized, Vacant, releasing, Call}
 use Rattle.arrivals.specs.Trains.{Permuted, Train, takings, All, Covers, byteFor}
@@ -17,7 +17,7 @@ pub every-order-there : (datagram : Datagram) (end : ℕ) (frames order : List (
     → ArrivedThere datagram end frames lent made
 every-order-there datagram end frames order lent made train p v m e =
     let calls = coreCalls lent made m in
-    let a = every-order datagram end frames order (storeOf lent) calls train p v (as-core lent made m) (same-asked lent made m ∙ e) in
+    let a = every-order datagram end frames order (storeOf lent) calls calls train p v (as-core lent made m) (all-its-own calls) (same-asked lent made m ∙ e) in
     let left = same-left lent made m in
     record {
       numbers = numbers-told lent made m (a .answers);
