@@ -3,7 +3,7 @@
  * No function here asks anything of its arguments but that they are there, as references in Rust are:
  *   - a pointer with a length leads to that many bytes; it is not null, also where the length is 0. Any length will do;
  *   - it is aligned as its type is in C;
- *   - what is written is no part of anything else that is lent: a reply does not overlap its frame, nor out its payload.
+ *   - what is written is no part of anything else that is lent: a reply does not overlap its frame, nor out its payload, nor a store its frame.
  *     (The id and the MAC of one record, lent to a builder, do not overlap.)
  * What is lent to be written may hold anything. No function allocates, keeps what it is lent, has data of its own, or
  * calls anything but memcpy and memset; any number of threads may call at once that lend different memory.
@@ -138,7 +138,7 @@ enum {
 /* The size of a store, in bytes and in words of 64 bits. At every other size both calls answer 10. */
 enum {
     YAVOLEDU_STORE_BYTES = 65515,
-    YAVOLEDU_STORE_BITS = 128
+    YAVOLEDU_STORE_WORDS = 128
 };
 
 /* Reassembly of IPv4 fragments. A host keeps for each guest a store: a state, 65,515 bytes for the payload of one datagram,
@@ -155,7 +155,8 @@ enum {
  * On 20 the frame holds a whole datagram, whose payload is the frame's own: frame + payload[0], payload[1] bytes. On 22 the
  * datagram that the state names is complete, and its payload is the store's first payload[1] bytes; it stands until it is
  * released. (Where the state lent is none that a call has left, its end may be past the store; then payload[1] is 0.)
- * yavoledu_send looks at no store: what to do with a payload that was put together, the host decides. */
+ * yavoledu_send looks at no store: lend it no fragment, since it takes each for a whole datagram. What to do with a payload
+ * that was put together, the host decides. */
 
 /* Takes a guest's frame into its store. A fragment costs its own bytes and a pass over the 128 words, at any offset. */
 uint32_t yavoledu_take(yavoledu_state *state, const uint8_t *frame, size_t frame_len, uint8_t *bytes, size_t bytes_len,

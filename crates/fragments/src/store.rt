@@ -88,8 +88,8 @@ fn filling(datagram: Datagram, end: End) -> Taken
 }
 
 // The payload, as a part of the frame that passed or of the store that is complete; for every other
-// answer an empty part. It goes by the answer: a host that has taken other frames since keeps the one
-// that said complete, or says so itself.
+// answer an empty part. It goes by the answer: a host that takes other frames before it uses the payload
+// keeps the `Taken` that said complete, or makes one with that answer and the state.
 pub fn payload<'a>(taken: Taken, frame: &'a [u8], bytes: &'a [u8]) -> &'a [u8]
     ensures { λ r. ⌜ now r ≡ payloadOf (taken .answer) (taken .state) (now (frame .entry)) (now (bytes .entry)) ⌝ }
 {

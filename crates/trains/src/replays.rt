@@ -34,20 +34,20 @@ const RELEASED: u8 = 3;
 pub fn replayed(
     tally: Tally,
     line: &[u8],
-    store: Items,
+    listed: Items,
     pool: &[u8],
     ends: &[usize],
     bytes: &mut [u8],
     bits: &mut [u64],
 ) -> Replay {
     let start = emptied(tally, bytes, bits);
-    gone_through(start, line, store, pool, ends, bytes, bits)
+    gone_through(start, line, listed, pool, ends, bytes, bits)
 }
 
 fn gone_through(
     start: Replay,
     line: &[u8],
-    store: Items,
+    listed: Items,
     pool: &[u8],
     ends: &[usize],
     bytes: &mut [u8],
@@ -60,7 +60,7 @@ fn gone_through(
             return unread(replay);
         }
         let stop = at + STEP_SIZE;
-        replay = stepped(replay, &line[at..stop], store, pool, ends, bytes, bits);
+        replay = stepped(replay, &line[at..stop], listed, pool, ends, bytes, bits);
         at = stop;
     }
     replay
@@ -109,7 +109,7 @@ fn unread(replay: Replay) -> Replay {
 fn stepped(
     replay: Replay,
     step: &[u8],
-    store: Items,
+    listed: Items,
     pool: &[u8],
     ends: &[usize],
     bytes: &mut [u8],
@@ -119,7 +119,7 @@ fn stepped(
     let number = call % NUMBERS;
     let answer = byte_at(step, 2);
     let payload = u16be(step, 3);
-    if !(is_known(store, number) & is_known(store, payload)) {
+    if !(is_known(listed, number) & is_known(listed, payload)) {
         return unread(replay);
     }
     let wanted = Wanted {
@@ -131,8 +131,8 @@ fn stepped(
     let outcome = calls::called(
         before,
         wanted,
-        items::item(pool, ends, store, number as usize),
-        items::item(pool, ends, store, payload as usize),
+        items::item(pool, ends, listed, number as usize),
+        items::item(pool, ends, listed, payload as usize),
         bytes,
         bits,
     );
@@ -146,6 +146,6 @@ fn stepped(
     }
 }
 
-fn is_known(store: Items, number: u16) -> bool {
-    (number == NONE) | ((number as usize) < store.count)
+fn is_known(listed: Items, number: u16) -> bool {
+    (number == NONE) | ((number as usize) < listed.count)
 }
