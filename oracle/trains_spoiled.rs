@@ -85,30 +85,19 @@ pub fn list(list: &mut TrainList) {
                 },
             ));
         }
-        match call.payload[..] {
-            [] => {
-                let payload = ruled(31, 45);
-                list.spoiled(&with_call(
-                    calls,
-                    at,
-                    Call {
-                        payload,
-                        ..call.clone()
-                    },
-                ));
-            }
-            _ => {
-                for payload in wrong_payloads(&call.payload) {
-                    list.spoiled(&with_call(
-                        calls,
-                        at,
-                        Call {
-                            payload,
-                            ..call.clone()
-                        },
-                    ));
-                }
-            }
+        let payloads = match call.payload[..] {
+            [] => vec![ruled(31, 45)],
+            _ => wrong_payloads(&call.payload),
+        };
+        for payload in payloads {
+            list.spoiled(&with_call(
+                calls,
+                at,
+                Call {
+                    payload,
+                    ..call.clone()
+                },
+            ));
         }
         if call.lent == 0 && call.answer != 10 {
             list.spoiled(&with_call(
