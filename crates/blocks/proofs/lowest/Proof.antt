@@ -7,12 +7,6 @@ use borrow.Author.Needs.{needs}
 use Rattle.blocks.proofs.lowest.Statement.{statement}
 use Rattle.blocks.proofs.lowest.Tie as tie
 
-sub-result : tie.Need-sub-result
-sub-result c = search needs
-
-shr-result : tie.Need-shr-result
-shr-result c = search needs
-
 returns : tie.Need-returns
 returns c =
     ap (λ (k : ℕ). (2 ^ k - 1) / 2 ^ (64 - c .args .n)) {x = 64} (omega arith)
@@ -20,4 +14,4 @@ returns c =
     ∙ high (2 ^ c .args .n - 1) (64 - c .args .n) (ones-lt (64 - c .args .n))
 
 pub lowest-spec : {M : Type 1} → statement M
-lowest-spec = tie.close (tie.spec sub-result shr-result returns)
+lowest-spec = tie.close (tie.spec (λ c. search needs) (λ c. search needs) returns)

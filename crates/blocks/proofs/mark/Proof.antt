@@ -22,9 +22,6 @@ Inv-loop bits₀ first stop at₀ bits at =
 abbrev μ-loop : tie.MeasureT-loop
 μ-loop bits₀ first stop at₀ bits at = stop - at
 
-reaches-requires : tie.Need-reaches-requires Inv-loop μ-loop
-reaches-requires c κs = search needs
-
 returns : tie.Need-returns Inv-loop μ-loop
 returns c =
     record {
@@ -42,35 +39,11 @@ loop-holds c =
       leb-true (a .stop) (length (a .bits .now) * 64) (sym (c .before .reaches .ensures) ∙ not-false (c .before .reaches .result) (c .if1 .left)),
     )
 
-sub-within : tie.Need-sub-within Inv-loop μ-loop
-sub-within c = search needs
-
-within-requires : tie.Need-within-requires Inv-loop μ-loop
-within-requires c κs = search needs
-
-mul-bits : tie.Need-mul-bits Inv-loop μ-loop
-mul-bits c = search needs
-
 slice-read-bits : tie.Need-slice-read-bits Inv-loop μ-loop
 slice-read-bits c = omega arith
 
-lowest-requires : tie.Need-lowest-requires Inv-loop μ-loop
-lowest-requires c κs = search needs
-
-shl-bits : tie.Need-shl-bits Inv-loop μ-loop
-shl-bits c = search needs
-
-mul-bits-2 : tie.Need-mul-bits-2 Inv-loop μ-loop
-mul-bits-2 c = search needs
-
 slice-write-bits : tie.Need-slice-write-bits Inv-loop μ-loop
 slice-write-bits c = omega arith
-
-add-at : tie.Need-add-at Inv-loop μ-loop
-add-at c = search needs
-
-loop-less : tie.Need-loop-less Inv-loop μ-loop
-loop-less c = search needs
 
 loop-again : tie.Need-loop-again Inv-loop μ-loop
 loop-again c =
@@ -88,9 +61,6 @@ loop-again c =
       l .inv .4,
     )
 
-same-length : tie.Need-same-length Inv-loop μ-loop
-same-length c = search needs
-
 returns-2 : tie.Need-returns-2 Inv-loop μ-loop
 returns-2 c =
     let a = c .before .before .before .before .before .args in
@@ -107,22 +77,7 @@ returns-2 c =
 pub mark-spec : {M : Type 1} → statement M
 mark-spec =
     tie.close
-    (tie.spec
-    Inv-loop
-    μ-loop
-    reaches-requires
-    returns
-    loop-holds
-    sub-within
-    within-requires
-    mul-bits
-    slice-read-bits
-    lowest-requires
-    shl-bits
-    mul-bits-2
-    slice-write-bits
-    add-at
-    loop-less
-    loop-again
-    same-length
-    returns-2)
+    (tie.spec Inv-loop μ-loop (λ c κs. search needs) returns loop-holds (λ c. search needs)
+    (λ c κs. search needs) (λ c. search needs) slice-read-bits (λ c κs. search needs) (λ c. search needs)
+    (λ c. search needs) slice-write-bits (λ c. search needs) (λ c. search needs) loop-again
+    (λ c. search needs) returns-2)

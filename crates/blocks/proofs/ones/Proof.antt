@@ -21,9 +21,6 @@ module _ (word n : ℕ) {mask : ℕ} (e : mask ≡ 2 ^ n - 1) where
   few : ones (bitAnd word mask) ≤ n
   few = subst (λ (x : ℕ). ones x ≤ n) (sym masked) (ones-le n (word % 2 ^ n) (mod-lt word (pow-pos n)))
 
-lowest-requires : tie.Need-lowest-requires
-lowest-requires c κs = search needs
-
 cast-result : tie.Need-cast-result
 cast-result c = record { fits = omega (arith, few (c .before .args .word) (c .before .args .n) (c .lowest .ensures)) }
 
@@ -31,4 +28,4 @@ returns : tie.Need-returns
 returns c = (counted (c .before .args .word) (c .before .args .n) (c .lowest .ensures), few (c .before .args .word) (c .before .args .n) (c .lowest .ensures))
 
 pub ones-spec : {M : Type 1} → statement M
-ones-spec = tie.close (tie.spec lowest-requires cast-result returns)
+ones-spec = tie.close (tie.spec (λ c κs. search needs) cast-result returns)

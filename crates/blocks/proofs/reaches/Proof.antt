@@ -20,11 +20,8 @@ reached words stop h = go (ltb ((stop - 1) / 64) words) refl
 returns : tie.Need-returns
 returns c = sym (le-leb (c .before .args .stop) (c .before .args .words * 64) (omega arith))
 
-sub-result : tie.Need-sub-result
-sub-result c = search needs
-
 returns-2 : tie.Need-returns-2
 returns-2 c = reached (c .before .args .words) (c .before .args .stop) (omega arith)
 
 pub reaches-spec : {M : Type 1} → statement M
-reaches-spec = tie.close (tie.spec returns sub-result returns-2)
+reaches-spec = tie.close (tie.spec returns (λ c. search needs) returns-2)

@@ -8,11 +8,5 @@ use Rattle.fields.proofs.byte_at.Tie as tie
 returns : tie.Need-returns
 returns c = sym (past-end (c .before .args .buf .now) (c .before .args .at) (c .if1 .taken))
 
-shared-slice-read-result : tie.Need-shared-slice-read-result
-shared-slice-read-result c = search needs
-
-returns-2 : tie.Need-returns-2
-returns-2 c = search needs
-
 pub byte-at-spec : {M : Type 1} → statement M
-byte-at-spec = tie.close (tie.spec returns shared-slice-read-result returns-2)
+byte-at-spec = tie.close (tie.spec returns (λ c. search needs) (λ c. search needs))

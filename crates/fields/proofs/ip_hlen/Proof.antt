@@ -7,9 +7,6 @@ use borrow.Author.Needs.{needs}
 use Rattle.fields.proofs.ip_hlen.Statement.{statement}
 use Rattle.fields.proofs.ip_hlen.Tie as tie
 
-byte-at-requires : tie.Need-byte-at-requires
-byte-at-requires c κs = search needs
-
 cast-result : tie.Need-cast-result
 cast-result c = record { fits = lt-of-le-of-lt {m = c .byte-at .result} (and-le-l _ _) (omega arith) }
 
@@ -17,4 +14,4 @@ returns : tie.Need-returns
 returns c = rw getD-drop (omega (arith, and-mask (c .byte-at .result) 4))
 
 pub ip-hlen-spec : {M : Type 1} → statement M
-ip-hlen-spec = tie.close (tie.spec byte-at-requires cast-result returns)
+ip-hlen-spec = tie.close (tie.spec (λ c κs. search needs) cast-result returns)

@@ -4,11 +4,8 @@ use borrow.Author.Needs.{needs}
 use Rattle.fields.proofs.ip_proto.Statement.{statement}
 use Rattle.fields.proofs.ip_proto.Tie as tie
 
-byte-at-requires : tie.Need-byte-at-requires
-byte-at-requires c κs = search needs
-
 returns : tie.Need-returns
 returns c = simp getD-drop (c .byte-at .ensures)
 
 pub ip-proto-spec : {M : Type 1} → statement M
-ip-proto-spec = tie.close (tie.spec byte-at-requires returns)
+ip-proto-spec = tie.close (tie.spec (λ c κs. search needs) returns)

@@ -4,11 +4,8 @@ use borrow.Author.Needs.{needs}
 use Rattle.fields.proofs.ip_src.Statement.{statement}
 use Rattle.fields.proofs.ip_src.Tie as tie
 
-address-at-requires : tie.Need-address-at-requires
-address-at-requires c κs = search needs
-
 returns : tie.Need-returns
 returns c = simp getD-drop (c .address-at .ensures)
 
 pub ip-src-spec : {M : Type 1} → statement M
-ip-src-spec = tie.close (tie.spec address-at-requires returns)
+ip-src-spec = tie.close (tie.spec (λ c κs. search needs) returns)

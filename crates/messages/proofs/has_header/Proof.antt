@@ -6,35 +6,11 @@ use Rattle.messages.proofs.Telling.{tells-eq, one-or-two, at-least-1, a
 use Rattle.messages.proofs.has_header.Statement.{statement}
 use Rattle.messages.proofs.has_header.Tie as tie
 
-returns : tie.Need-returns
-returns c = search needs
-
-returns-2 : tie.Need-returns-2
-returns-2 c = search needs
-
-byte-at-requires : tie.Need-byte-at-requires
-byte-at-requires c κs = search needs
-
 returns-3 : tie.Need-returns-3
 returns-3 c = λ a. let least = at-least-1 _ (a .operation) in omega (arith, least)
 
 returns-4 : tie.Need-returns-4
 returns-4 c = λ a. let most = at-most-2 _ (a .operation) in omega (arith, most)
-
-byte-at-requires-2 : tie.Need-byte-at-requires-2
-byte-at-requires-2 c κs = search needs
-
-returns-5 : tie.Need-returns-5
-returns-5 c = search needs
-
-byte-at-requires-3 : tie.Need-byte-at-requires-3
-byte-at-requires-3 c κs = search needs
-
-returns-6 : tie.Need-returns-6
-returns-6 c = search needs
-
-u32be-requires : tie.Need-u32be-requires
-u32be-requires c κs = search needs
 
 returns-7 : tie.Need-returns-7
 returns-7 c =
@@ -53,15 +29,6 @@ returns-7 c =
 pub has-header-spec : {M : Type 1} → statement M
 has-header-spec =
     tie.close
-    (tie.spec
-    returns
-    returns-2
-    byte-at-requires
-    returns-3
-    returns-4
-    byte-at-requires-2
-    returns-5
-    byte-at-requires-3
-    returns-6
-    u32be-requires
-    returns-7)
+    (tie.spec (λ c. search needs) (λ c. search needs) (λ c κs. search needs) returns-3 returns-4
+    (λ c κs. search needs) (λ c. search needs) (λ c κs. search needs) (λ c. search needs)
+    (λ c κs. search needs) returns-7)

@@ -16,26 +16,11 @@ returns c =
     let at : ℕ = c .before .before .args .at in
     no-message s at (λ header. let least = header .least in omega (arith, least, length-drop at s))
 
-sub-has-header : tie.Need-sub-has-header
-sub-has-header c = search needs
-
-part-has-header-start : tie.Need-part-has-header-start
-part-has-header-start c = search needs
-
-part-has-header-end : tie.Need-part-has-header-end
-part-has-header-end c = search needs
-
-has-header-requires : tie.Need-has-header-requires
-has-header-requires c κs = search needs
-
 returns-2 : tie.Need-returns-2
 returns-2 c =
     let s : List ℕ = c .before .before .before .before .before .args .frame .now in
     let at : ℕ = c .before .before .before .before .before .args .at in
     no-message s at (tells-not {A = DHCPHeader (drop at s)} (c .before .has-header .result) (of-rest DHCPHeader at s (c .before .has-header .result) (c .before .has-header .ensures)) (c .if2 .taken))
-
-add-read-list : tie.Need-add-read-list
-add-read-list c = search needs
 
 read-list-requires : tie.Need-read-list-requires
 read-list-requires c κs =
@@ -53,13 +38,5 @@ returns-3 c =
 pub read-message-spec : {M : Type 1} → statement M
 read-message-spec =
     tie.close
-    (tie.spec
-    returns
-    sub-has-header
-    part-has-header-start
-    part-has-header-end
-    has-header-requires
-    returns-2
-    add-read-list
-    read-list-requires
-    returns-3)
+    (tie.spec returns (λ c. search needs) (λ c. search needs) (λ c. search needs) (λ c κs. search needs)
+    returns-2 (λ c. search needs) read-list-requires returns-3)

@@ -24,49 +24,13 @@ scan-holds : tie.Need-scan-holds Inv-scan μ-scan
 unfolding walk
 scan-holds c = refl
 
-shared-slice-read-code : tie.Need-shared-slice-read-code Inv-scan μ-scan
-shared-slice-read-code c = search needs
-
-add-at : tie.Need-add-at Inv-scan μ-scan
-add-at c = search needs
-
-scan-less : tie.Need-scan-less Inv-scan μ-scan
-scan-less c = search needs
-
 scan-again : tie.Need-scan-again Inv-scan μ-scan
 scan-again c =
     let l = c .before .before .before .before .scan in
     sym (at-0 (c .before .before .before .before .before .before .args .data .now) (l .at) (c .before .before .before .if1 .left) (c .if3 .taken)) ∙ l .inv
 
-add-if4 : tie.Need-add-if4 Inv-scan μ-scan
-add-if4 c = search needs
-
-add-widened : tie.Need-add-widened Inv-scan μ-scan
-add-widened c = search needs
-
-shared-slice-read-widened : tie.Need-shared-slice-read-widened Inv-scan μ-scan
-shared-slice-read-widened c = search needs
-
-widened-requires : tie.Need-widened-requires Inv-scan μ-scan
-widened-requires c κs = search needs
-
-add-next : tie.Need-add-next Inv-scan μ-scan
-add-next c = search needs
-
-add-next-2 : tie.Need-add-next-2 Inv-scan μ-scan
-add-next-2 c = search needs
-
-add-if7 : tie.Need-add-if7 Inv-scan μ-scan
-add-if7 c = search needs
-
-add-t15 : tie.Need-add-t15 Inv-scan μ-scan
-add-t15 c = search needs
-
 shared-slice-read-t19 : tie.Need-shared-slice-read-t19 Inv-scan μ-scan
 shared-slice-read-t19 c = omega arith
-
-scan-less-2 : tie.Need-scan-less-2 Inv-scan μ-scan
-scan-less-2 c = search needs
 
 scan-again-2 : tie.Need-scan-again-2 Inv-scan μ-scan
 scan-again-2 c =
@@ -109,27 +73,7 @@ returns-5 c =
 pub message-type-spec : {M : Type 1} → statement M
 message-type-spec =
     tie.close
-    (tie.spec
-    Inv-scan
-    μ-scan
-    scan-holds
-    shared-slice-read-code
-    add-at
-    scan-less
-    scan-again
-    add-if4
-    add-widened
-    shared-slice-read-widened
-    widened-requires
-    add-next
-    add-next-2
-    add-if7
-    add-t15
-    shared-slice-read-t19
-    scan-less-2
-    scan-again-2
-    returns
-    returns-2
-    returns-3
-    returns-4
-    returns-5)
+    (tie.spec Inv-scan μ-scan scan-holds (λ c. search needs) (λ c. search needs) (λ c. search needs)
+    scan-again (λ c. search needs) (λ c. search needs) (λ c. search needs) (λ c κs. search needs)
+    (λ c. search needs) (λ c. search needs) (λ c. search needs) (λ c. search needs) shared-slice-read-t19
+    (λ c. search needs) scan-again-2 returns returns-2 returns-3 returns-4 returns-5)

@@ -12,28 +12,10 @@ use Rattle.reader.proofs.read.Tie as tie
 returns : tie.Need-returns
 returns c = short-frame (c .before .before .args .frame .now) (c .if1 .taken)
 
-u16be-requires : tie.Need-u16be-requires
-u16be-requires c κs = search needs
-
-sub-packet : tie.Need-sub-packet
-sub-packet c = search needs
-
-part-packet-start : tie.Need-part-packet-start
-part-packet-start c = search needs
-
-part-packet-end : tie.Need-part-packet-end
-part-packet-end c = search needs
-
-is-arp-requires : tie.Need-is-arp-requires
-is-arp-requires c κs = search needs
-
 returns-2 : tie.Need-returns-2
 returns-2 c =
     let s : List ℕ = c .before .before .before .before .before .before .before .args .frame .now in
     no-arp s (sym (c .before .before .before .before .u16be .ensures) ∙ c .before .before .if2 .taken) (tells-not {A = ARP (body s)} (c .before .is-arp .result) (of-rest ARP 14 s (c .before .is-arp .result) (c .before .is-arp .ensures)) (c .if3 .taken))
-
-laid-requires : tie.Need-laid-requires
-laid-requires c κs = search needs
 
 returns-3 : tie.Need-returns-3
 returns-3 c =
@@ -42,9 +24,6 @@ returns-3 c =
 
 returns-4 : tie.Need-returns-4
 returns-4 c = no-ipv4 (c .before .before .before .before .before .before .args .frame .now) (λ e. c .before .if2 .left (c .before .before .before .u16be .ensures ∙ e)) (λ e i. c .if4 .taken (c .before .before .before .u16be .ensures ∙ e))
-
-is-ipv4-requires : tie.Need-is-ipv4-requires
-is-ipv4-requires c κs = search needs
 
 returns-5 : tie.Need-returns-5
 returns-5 c =
@@ -56,24 +35,9 @@ read-payload-requires c κs =
     let s : List ℕ = c .before .before .before .before .before .before .before .before .args .frame .now in
     record { ethernet = record { whole = c .before .before .before .before .before .before .if1 .left; typed = sym (c .before .before .before .before .before .u16be .ensures) ∙ c .before .before .if4 .left }; ip = (tells-yes {A = IPv4 (body s)} (c .before .is-ipv4 .result) (of-rest IPv4 14 s (c .before .is-ipv4 .result) (c .before .is-ipv4 .ensures)) (c .if5 .left)) }
 
-returns-6 : tie.Need-returns-6
-returns-6 c = search needs
-
 pub read-spec : {M : Type 1} → statement M
 read-spec =
     tie.close
-    (tie.spec
-    returns
-    u16be-requires
-    sub-packet
-    part-packet-start
-    part-packet-end
-    is-arp-requires
-    returns-2
-    laid-requires
-    returns-3
-    returns-4
-    is-ipv4-requires
-    returns-5
-    read-payload-requires
-    returns-6)
+    (tie.spec returns (λ c κs. search needs) (λ c. search needs) (λ c. search needs) (λ c. search needs)
+    (λ c κs. search needs) returns-2 (λ c κs. search needs) returns-3 returns-4 (λ c κs. search needs)
+    returns-5 read-payload-requires (λ c. search needs))

@@ -11,15 +11,6 @@ use Rattle.reader.proofs.Answers.{headed, no-udp, no-dhcp, udp-taken, d
 use Rattle.reader.proofs.read_datagram.Statement.{statement}
 use Rattle.reader.proofs.read_datagram.Tie as tie
 
-sub-packet : tie.Need-sub-packet
-sub-packet c = search needs
-
-part-packet-start : tie.Need-part-packet-start
-part-packet-start c = search needs
-
-part-packet-end : tie.Need-part-packet-end
-part-packet-end c = search needs
-
 is-udp-requires : tie.Need-is-udp-requires
 is-udp-requires c κs =
     let s : List ℕ = c .before .before .args .frame .now in
@@ -33,35 +24,17 @@ returns c =
     let framed = c .before .before .before .before .pre .0 in
     no-udp s framed (c .before .before .before .before .pre .1 .0) (tells-not {A = UDP (body s)} (c .before .is-udp .result) (of-rest UDP 14 s (c .before .is-udp .result) (c .before .is-udp .ensures)) (c .if1 .taken))
 
-add-data : tie.Need-add-data
-add-data c = search needs
-
-laid-requires : tie.Need-laid-requires
-laid-requires c κs = search needs
-
-carries-dhcp-requires : tie.Need-carries-dhcp-requires
-carries-dhcp-requires c κs = search needs
-
 returns-2 : tie.Need-returns-2
 returns-2 c =
     let s : List ℕ = c .before .before .before .before .before .before .before .args .frame .now in
     let framed = c .before .before .before .before .before .before .before .pre .0 in
     udp-taken s framed (c .before .before .before .before .before .before .before .args .start) (c .before .before .before .before .before .before .before .args .ethernet) (c .before .before .before .before .before .before .before .args .ip) (c .before .before .before .before .before .before .before .pre .1 .1) (tells-yes {A = UDP (body s)} (c .before .before .before .before .is-udp .result) (of-rest UDP 14 s (c .before .before .before .before .is-udp .result) (c .before .before .before .before .is-udp .ensures)) (c .before .before .before .if1 .left)) (tells-not {A = CarriesDHCP (body s)} (c .before .carries-dhcp .result) (of-rest CarriesDHCP 14 s (c .before .carries-dhcp .result) (c .before .carries-dhcp .ensures)) (c .if2 .taken)) (c .before .before .laid .result) (c .before .before .laid .ensures)
 
-read-message-requires : tie.Need-read-message-requires
-read-message-requires c κs = search needs
-
 returns-3 : tie.Need-returns-3
 returns-3 c =
     let s : List ℕ = c .before .before .before .before .before .before .before .before .before .args .frame .now in
     let framed = c .before .before .before .before .before .before .before .before .before .pre .0 in
     no-dhcp s framed (c .before .before .before .before .before .before .before .before .before .args .start) (c .before .before .before .before .before .before .before .before .before .args .ethernet) (c .before .before .before .before .before .before .before .before .before .args .ip) (c .before .before .before .before .before .before .before .before .before .pre .1 .1) (c .before .before .before .before .before .before .before .before .before .pre .1 .0) (tells-yes {A = CarriesDHCP (body s)} (c .before .before .before .carries-dhcp .result) (of-rest CarriesDHCP 14 s (c .before .before .before .carries-dhcp .result) (c .before .before .before .carries-dhcp .ensures)) (c .before .before .if2 .left)) (c .before .read-message .result) (c .if3 .taken) (c .before .read-message .ensures)
-
-add-laid : tie.Need-add-laid
-add-laid c = search needs
-
-laid-requires-2 : tie.Need-laid-requires-2
-laid-requires-2 c κs = search needs
 
 returns-4 : tie.Need-returns-4
 returns-4 c =
@@ -72,18 +45,6 @@ returns-4 c =
 pub read-datagram-spec : {M : Type 1} → statement M
 read-datagram-spec =
     tie.close
-    (tie.spec
-    sub-packet
-    part-packet-start
-    part-packet-end
-    is-udp-requires
-    returns
-    add-data
-    laid-requires
-    carries-dhcp-requires
-    returns-2
-    read-message-requires
-    returns-3
-    add-laid
-    laid-requires-2
-    returns-4)
+    (tie.spec (λ c. search needs) (λ c. search needs) (λ c. search needs) is-udp-requires returns
+    (λ c. search needs) (λ c κs. search needs) (λ c κs. search needs) returns-2 (λ c κs. search needs)
+    returns-3 (λ c. search needs) (λ c κs. search needs) returns-4)

@@ -11,30 +11,6 @@ use Rattle.reader.proofs.Answers.{headed, opened, no-icmp, no-tcp, icmp
 use Rattle.reader.proofs.read_payload.Statement.{statement}
 use Rattle.reader.proofs.read_payload.Tie as tie
 
-sub-packet : tie.Need-sub-packet
-sub-packet c = search needs
-
-part-packet-start : tie.Need-part-packet-start
-part-packet-start c = search needs
-
-part-packet-end : tie.Need-part-packet-end
-part-packet-end c = search needs
-
-header-length-requires : tie.Need-header-length-requires
-header-length-requires c κs = search needs
-
-add-start : tie.Need-add-start
-add-start c = search needs
-
-laid-requires : tie.Need-laid-requires
-laid-requires c κs = search needs
-
-laid-requires-2 : tie.Need-laid-requires-2
-laid-requires-2 c κs = search needs
-
-byte-at-requires : tie.Need-byte-at-requires
-byte-at-requires c κs = search needs
-
 is-icmp-requires : tie.Need-is-icmp-requires
 is-icmp-requires c κs =
     let s : List ℕ = c .before .before .before .before .before .before .before .args .frame .now in
@@ -49,12 +25,6 @@ returns c =
     let packet = from-on 14 s in
     let protocol-is = c .before .before .before .byte-at .ensures ∙ ap protocol packet in
     no-icmp s framed (sym protocol-is ∙ c .before .before .if1 .taken) (tells-not {A = ICMP (body s)} (c .before .is-icmp .result) (of-rest ICMP 14 s (c .before .is-icmp .result) (c .before .is-icmp .ensures)) (c .if2 .taken))
-
-add-laid : tie.Need-add-laid
-add-laid c = search needs
-
-laid-requires-3 : tie.Need-laid-requires-3
-laid-requires-3 c κs = search needs
 
 returns-2 : tie.Need-returns-2
 returns-2 c =
@@ -80,15 +50,6 @@ returns-3 c =
     let protocol-is = c .before .before .before .before .byte-at .ensures ∙ ap protocol packet in
     no-tcp s framed (sym protocol-is ∙ c .before .before .if3 .taken) (tells-not {A = TCP (body s)} (c .before .is-tcp .result) (of-rest TCP 14 s (c .before .is-tcp .result) (c .before .is-tcp .ensures)) (c .if4 .taken))
 
-tcp-header-length-requires : tie.Need-tcp-header-length-requires
-tcp-header-length-requires c κs = search needs
-
-add-laid-2 : tie.Need-add-laid-2
-add-laid-2 c = search needs
-
-laid-requires-4 : tie.Need-laid-requires-4
-laid-requires-4 c κs = search needs
-
 returns-4 : tie.Need-returns-4
 returns-4 c =
     let s : List ℕ = c .before .before .before .before .before .before .before .before .before .before .before .before .args .frame .now in
@@ -108,9 +69,6 @@ read-datagram-requires c κs =
     let layers = opened s framed _ (c .before .before .before .before .before .laid .result) (c .before .before .before .before .laid2 .result) start (c .before .before .before .before .before .laid .ensures) (c .before .before .before .before .laid2 .ensures) in
     (framed, ((sym protocol-is ∙ c .if5 .taken), layers))
 
-returns-5 : tie.Need-returns-5
-returns-5 c = search needs
-
 returns-6 : tie.Need-returns-6
 returns-6 c =
     let s : List ℕ = c .before .before .before .before .before .before .before .before .before .args .frame .now in
@@ -125,26 +83,8 @@ returns-6 c =
 pub read-payload-spec : {M : Type 1} → statement M
 read-payload-spec =
     tie.close
-    (tie.spec
-    sub-packet
-    part-packet-start
-    part-packet-end
-    header-length-requires
-    add-start
-    laid-requires
-    laid-requires-2
-    byte-at-requires
-    is-icmp-requires
-    returns
-    add-laid
-    laid-requires-3
-    returns-2
-    is-tcp-requires
-    returns-3
-    tcp-header-length-requires
-    add-laid-2
-    laid-requires-4
-    returns-4
-    read-datagram-requires
-    returns-5
-    returns-6)
+    (tie.spec (λ c. search needs) (λ c. search needs) (λ c. search needs) (λ c κs. search needs)
+    (λ c. search needs) (λ c κs. search needs) (λ c κs. search needs) (λ c κs. search needs) is-icmp-requires
+    returns (λ c. search needs) (λ c κs. search needs) returns-2 is-tcp-requires returns-3
+    (λ c κs. search needs) (λ c. search needs) (λ c κs. search needs) returns-4 read-datagram-requires
+    (λ c. search needs) returns-6)

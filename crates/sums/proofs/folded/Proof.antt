@@ -5,17 +5,8 @@ use Rattle.sums.proofs.Laws.{two-folds}
 use Rattle.sums.proofs.folded.Statement.{statement}
 use Rattle.sums.proofs.folded.Tie as tie
 
-add-once : tie.Need-add-once
-add-once c = search needs
-
-add-twice : tie.Need-add-twice
-add-twice c = search needs
-
-cast-result : tie.Need-cast-result
-cast-result c = search needs
-
 returns : tie.Need-returns
 returns c = two-folds (c .args .total) (omega arith)
 
 pub folded-spec : {M : Type 1} → statement M
-folded-spec = tie.close (tie.spec add-once add-twice cast-result returns)
+folded-spec = tie.close (tie.spec (λ c. search needs) (λ c. search needs) (λ c. search needs) returns)

@@ -5,12 +5,6 @@ use Rattle.sums.proofs.Laws.{total-last, total-none}
 use Rattle.sums.proofs.odd_byte.Statement.{statement}
 use Rattle.sums.proofs.odd_byte.Tie as tie
 
-shared-slice-read-word : tie.Need-shared-slice-read-word
-shared-slice-read-word c = search needs
-
-word-requires : tie.Need-word-requires
-word-requires c κs = search needs
-
 returns : tie.Need-returns
 returns c =
     let a = c .before .before .before .before .args in
@@ -22,4 +16,4 @@ returns-2 c =
     omega (arith, total-none (a .piece .now) (a .i) (omega arith))
 
 pub odd-byte-spec : {M : Type 1} → statement M
-odd-byte-spec = tie.close (tie.spec shared-slice-read-word word-requires returns returns-2)
+odd-byte-spec = tie.close (tie.spec (λ c. search needs) (λ c κs. search needs) returns returns-2)

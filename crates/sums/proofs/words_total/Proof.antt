@@ -18,30 +18,6 @@ abbrev μ-loop : tie.MeasureT-loop
 loop-holds : tie.Need-loop-holds Inv-loop μ-loop
 loop-holds c = (omega arith, ap fold (omega arith), omega arith)
 
-add-loop : tie.Need-add-loop Inv-loop μ-loop
-add-loop c = search needs
-
-word-at-requires : tie.Need-word-at-requires Inv-loop μ-loop
-word-at-requires c κs = search needs
-
-add-sum : tie.Need-add-sum Inv-loop μ-loop
-add-sum c = search needs
-
-add-word-at : tie.Need-add-word-at Inv-loop μ-loop
-add-word-at c = search needs
-
-word-at-requires-2 : tie.Need-word-at-requires-2 Inv-loop μ-loop
-word-at-requires-2 c κs = search needs
-
-add-sum-2 : tie.Need-add-sum-2 Inv-loop μ-loop
-add-sum-2 c = search needs
-
-add-i : tie.Need-add-i Inv-loop μ-loop
-add-i c = search needs
-
-loop-less : tie.Need-loop-less Inv-loop μ-loop
-loop-less c = search needs
-
 loop-again : tie.Need-loop-again Inv-loop μ-loop
 loop-again c =
     let l = c .before .before .before .loop in
@@ -53,35 +29,11 @@ loop-again c =
       omega arith,
     )
 
-add-if1 : tie.Need-add-if1 Inv-loop μ-loop
-add-if1 c = search needs
-
-word-at-requires-3 : tie.Need-word-at-requires-3 Inv-loop μ-loop
-word-at-requires-3 c κs = search needs
-
-add-result : tie.Need-add-result Inv-loop μ-loop
-add-result c = search needs
-
-add-odd-byte : tie.Need-add-odd-byte Inv-loop μ-loop
-add-odd-byte c = search needs
-
-odd-byte-requires : tie.Need-odd-byte-requires Inv-loop μ-loop
-odd-byte-requires c κs = search needs
-
-add-result-2 : tie.Need-add-result-2 Inv-loop μ-loop
-add-result-2 c = search needs
-
 returns : tie.Need-returns Inv-loop μ-loop
 returns c =
     let l = c .before .before .before .before .loop in
     let s = c .before .before .before .before .before .before .args .piece .now in
     (ap fold (omega arith) ∙ fold-word s (l .i) (l .i + 2) (l .sum) (omega arith) (omega arith) (c .before .word-at3 .ensures .0) ∙ l .inv .1, omega arith)
-
-odd-byte-requires-2 : tie.Need-odd-byte-requires-2 Inv-loop μ-loop
-odd-byte-requires-2 c κs = search needs
-
-add-result-3 : tie.Need-add-result-3 Inv-loop μ-loop
-add-result-3 c = search needs
 
 returns-2 : tie.Need-returns-2 Inv-loop μ-loop
 returns-2 c = (ap fold (omega arith) ∙ c .before .before .before .loop .inv .1, omega arith)
@@ -89,26 +41,7 @@ returns-2 c = (ap fold (omega arith) ∙ c .before .before .before .loop .inv .1
 pub words-total-spec : {M : Type 1} → statement M
 words-total-spec =
     tie.close
-    (tie.spec
-    Inv-loop
-    μ-loop
-    loop-holds
-    add-loop
-    word-at-requires
-    add-sum
-    add-word-at
-    word-at-requires-2
-    add-sum-2
-    add-i
-    loop-less
-    loop-again
-    add-if1
-    word-at-requires-3
-    add-result
-    add-odd-byte
-    odd-byte-requires
-    add-result-2
-    returns
-    odd-byte-requires-2
-    add-result-3
-    returns-2)
+    (tie.spec Inv-loop μ-loop loop-holds (λ c. search needs) (λ c κs. search needs) (λ c. search needs)
+    (λ c. search needs) (λ c κs. search needs) (λ c. search needs) (λ c. search needs) (λ c. search needs)
+    loop-again (λ c. search needs) (λ c κs. search needs) (λ c. search needs) (λ c. search needs)
+    (λ c κs. search needs) (λ c. search needs) returns (λ c κs. search needs) (λ c. search needs) returns-2)

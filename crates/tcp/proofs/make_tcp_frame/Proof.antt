@@ -10,44 +10,11 @@ use borrow.Author.Needs.{needs}
 use Rattle.tcp.proofs.make_tcp_frame.Statement.{statement}
 use Rattle.tcp.proofs.make_tcp_frame.Tie as tie
 
-options-length-requires : tie.Need-options-length-requires
-options-length-requires c κs = search needs
-
-data-limit-requires : tie.Need-data-limit-requires
-data-limit-requires c κs = search needs
-
-refused-requires : tie.Need-refused-requires
-refused-requires c κs = search needs
-
 returns : tie.Need-returns
 returns c = rw (c .refused .ensures) (refused-too-long _ _ _ _ _ _ _ (omega arith))
 
-add-segment-len : tie.Need-add-segment-len
-add-segment-len c = search needs
-
-add-segment-len-2 : tie.Need-add-segment-len-2
-add-segment-len-2 c = search needs
-
-add-if2 : tie.Need-add-if2
-add-if2 c = search needs
-
-add-t18 : tie.Need-add-t18
-add-t18 c = search needs
-
-refused-requires-2 : tie.Need-refused-requires-2
-refused-requires-2 c κs = search needs
-
 returns-2 : tie.Need-returns-2
 returns-2 c = rw (c .refused2 .ensures) (refused-no-room _ _ _ _ _ _ _ _ (omega arith) (omega arith) (omega arith))
-
-put-segment-requires : tie.Need-put-segment-requires
-put-segment-requires c κs = search needs
-
-make-ip-frame-in-place-requires : tie.Need-make-ip-frame-in-place-requires
-make-ip-frame-in-place-requires c κs = search needs
-
-same-length : tie.Need-same-length
-same-length c = search needs
 
 returns-3 : tie.Need-returns-3
 unfolding tcpFrame
@@ -69,18 +36,6 @@ returns-3 c =
 pub make-tcp-frame-spec : {M : Type 1} → statement M
 make-tcp-frame-spec =
     tie.close
-    (tie.spec
-    options-length-requires
-    data-limit-requires
-    refused-requires
-    returns
-    add-segment-len
-    add-segment-len-2
-    add-if2
-    add-t18
-    refused-requires-2
-    returns-2
-    put-segment-requires
-    make-ip-frame-in-place-requires
-    same-length
-    returns-3)
+    (tie.spec (λ c κs. search needs) (λ c κs. search needs) (λ c κs. search needs) returns (λ c. search needs)
+    (λ c. search needs) (λ c. search needs) (λ c. search needs) (λ c κs. search needs) returns-2
+    (λ c κs. search needs) (λ c κs. search needs) (λ c. search needs) returns-3)

@@ -12,12 +12,6 @@ use borrow.Author.Needs.{needs}
 use Rattle.tcp.proofs.put_segment.Statement.{statement}
 use Rattle.tcp.proofs.put_segment.Tie as tie
 
-options-length-requires : tie.Need-options-length-requires
-options-length-requires c κs = search needs
-
-array-share-prefix-all-options : tie.Need-array-share-prefix-all-options
-array-share-prefix-all-options c = search needs
-
 slice-aggregate-options : tie.Need-slice-aggregate-options
 slice-aggregate-options c = sym (length-take-le (c .before .options-length .result) _ (omega arith))
 
@@ -25,14 +19,8 @@ summed-header-requires : tie.Need-summed-header-requires
 summed-header-requires c κs =
     (ap (λ (n : ℕ). take n synOptions) (c .before .options-length .ensures .0) ∙ options-take (c .before .before .before .before .args .flags), omega arith)
 
-slice-aggregate-put-three : tie.Need-slice-aggregate-put-three
-slice-aggregate-put-three c = search needs
-
 put-three-requires : tie.Need-put-three-requires
 put-three-requires c κs = omega (arith, length-take-le (c .before .before .before .before .options-length .result) synOptions (omega arith))
-
-same-length : tie.Need-same-length
-same-length c = search needs
 
 returns : tie.Need-returns
 unfolding segment
@@ -45,12 +33,5 @@ returns c =
 pub put-segment-spec : {M : Type 1} → statement M
 put-segment-spec =
     tie.close
-    (tie.spec
-    options-length-requires
-    array-share-prefix-all-options
-    slice-aggregate-options
-    summed-header-requires
-    slice-aggregate-put-three
-    put-three-requires
-    same-length
-    returns)
+    (tie.spec (λ c κs. search needs) (λ c. search needs) slice-aggregate-options summed-header-requires
+    (λ c. search needs) put-three-requires (λ c. search needs) returns)

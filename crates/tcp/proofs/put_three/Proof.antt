@@ -9,27 +9,6 @@ use Rattle.frames.proofs.Lists.{fits, put-put, put-behind}
 use Rattle.tcp.proofs.put_three.Statement.{statement}
 use Rattle.tcp.proofs.put_three.Tie as tie
 
-put-requires : tie.Need-put-requires
-put-requires c κs = search needs
-
-add-put : tie.Need-add-put
-add-put c = search needs
-
-put-requires-2 : tie.Need-put-requires-2
-put-requires-2 c κs = search needs
-
-add-put-2 : tie.Need-add-put-2
-add-put-2 c = search needs
-
-add-put-3 : tie.Need-add-put-3
-add-put-3 c = search needs
-
-put-requires-3 : tie.Need-put-requires-3
-put-requires-3 c κs = search needs
-
-same-length : tie.Need-same-length
-same-length c = search needs
-
 returns : tie.Need-returns
 returns c =
     let a = c .before .before .before .before .before .before .before .before .before .before .before .before .before .before .before .before .args in
@@ -45,12 +24,5 @@ returns c =
 pub put-three-spec : {M : Type 1} → statement M
 put-three-spec =
     tie.close
-    (tie.spec
-    put-requires
-    add-put
-    put-requires-2
-    add-put-2
-    add-put-3
-    put-requires-3
-    same-length
-    returns)
+    (tie.spec (λ c κs. search needs) (λ c. search needs) (λ c κs. search needs) (λ c. search needs)
+    (λ c. search needs) (λ c κs. search needs) (λ c. search needs) returns)

@@ -12,36 +12,6 @@ use Rattle.sums.proofs.Laws.{checksum-pieces}
 use Rattle.tcp.proofs.segment_checksum.Statement.{statement}
 use Rattle.tcp.proofs.segment_checksum.Tie as tie
 
-add-len : tie.Need-add-len
-add-len c = search needs
-
-add-len-2 : tie.Need-add-len-2
-add-len-2 c = search needs
-
-cast-pseudo-header : tie.Need-cast-pseudo-header
-cast-pseudo-header c = search needs
-
-pseudo-header-requires : tie.Need-pseudo-header-requires
-pseudo-header-requires c κs = search needs
-
-slice-aggregate-sum : tie.Need-slice-aggregate-sum
-slice-aggregate-sum c = search needs
-
-sum-requires : tie.Need-sum-requires
-sum-requires c κs = search needs
-
-sum-requires-2 : tie.Need-sum-requires-2
-sum-requires-2 c κs = search needs
-
-sum-requires-3 : tie.Need-sum-requires-3
-sum-requires-3 c κs = search needs
-
-sum-requires-4 : tie.Need-sum-requires-4
-sum-requires-4 c κs = search needs
-
-sub-result : tie.Need-sub-result
-sub-result c = search needs
-
 returns : tie.Need-returns
 unfolding covered
 returns c =
@@ -63,15 +33,6 @@ returns c =
 pub segment-checksum-spec : {M : Type 1} → statement M
 segment-checksum-spec =
     tie.close
-    (tie.spec
-    add-len
-    add-len-2
-    cast-pseudo-header
-    pseudo-header-requires
-    slice-aggregate-sum
-    sum-requires
-    sum-requires-2
-    sum-requires-3
-    sum-requires-4
-    sub-result
-    returns)
+    (tie.spec (λ c. search needs) (λ c. search needs) (λ c. search needs) (λ c κs. search needs)
+    (λ c. search needs) (λ c κs. search needs) (λ c κs. search needs) (λ c κs. search needs)
+    (λ c κs. search needs) (λ c. search needs) returns)

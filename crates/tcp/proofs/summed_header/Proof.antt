@@ -11,17 +11,11 @@ use Rattle.tcp.proofs.TcpLaws.{options-even, limit-holds}
 use Rattle.tcp.proofs.summed_header.Statement.{statement}
 use Rattle.tcp.proofs.summed_header.Tie as tie
 
-segment-header-requires : tie.Need-segment-header-requires
-segment-header-requires c κs = search needs
-
 segment-checksum-requires : tie.Need-segment-checksum-requires
 segment-checksum-requires c κs =
     let flags = c .before .before .before .before .before .before .args .flags in
     let len = ap length (c .before .before .before .before .before .before .pre .0) in
     (ap (λ (n : ℕ). n % 2) len ∙ options-even flags, omega (arith, len, limit-holds flags))
-
-segment-header-requires-2 : tie.Need-segment-header-requires-2
-segment-header-requires-2 c κs = search needs
 
 returns : tie.Need-returns
 unfolding summedHeader
@@ -37,4 +31,4 @@ returns c =
 pub summed-header-spec : {M : Type 1} → statement M
 summed-header-spec =
     tie.close
-    (tie.spec segment-header-requires segment-checksum-requires segment-header-requires-2 returns)
+    (tie.spec (λ c κs. search needs) segment-checksum-requires (λ c κs. search needs) returns)

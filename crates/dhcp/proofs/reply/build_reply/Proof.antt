@@ -15,18 +15,6 @@ use Rattle.dhcp.proofs.reply.build_reply.Tie as tie
 returns : tie.Need-returns
 returns c = does-not-fit 300 _ _ _ (c .if1 .taken)
 
-first-fields-requires : tie.Need-first-fields-requires
-first-fields-requires c κs = search needs
-
-option-values-requires : tie.Need-option-values-requires
-option-values-requires c κs = search needs
-
-write-reply-requires : tie.Need-write-reply-requires
-write-reply-requires c κs = search needs
-
-same-length : tie.Need-same-length
-same-length c = search needs
-
 returns-2 : tie.Need-returns-2
 returns-2 c =
     let a = c .before .before .before .before .before .before .before .before .before .before .args in
@@ -40,10 +28,5 @@ returns-2 c =
 pub build-reply-spec : {M : Type 1} → statement M
 build-reply-spec =
     tie.close
-    (tie.spec
-    returns
-    first-fields-requires
-    option-values-requires
-    write-reply-requires
-    same-length
+    (tie.spec returns (λ c κs. search needs) (λ c κs. search needs) (λ c κs. search needs) (λ c. search needs)
     returns-2)

@@ -7,60 +7,6 @@ use borrow.Author.Needs.{needs}
 use Rattle.dhcp.proofs.reply.write_reply.Statement.{statement}
 use Rattle.dhcp.proofs.reply.write_reply.Tie as tie
 
-put-fixed-part-requires : tie.Need-put-fixed-part-requires
-put-fixed-part-requires c κs = search needs
-
-slice-aggregate-put : tie.Need-slice-aggregate-put
-slice-aggregate-put c = search needs
-
-put-requires : tie.Need-put-requires
-put-requires c κs = search needs
-
-array-copy-out-put-row : tie.Need-array-copy-out-put-row
-array-copy-out-put-row c = search needs
-
-put-row-requires : tie.Need-put-row-requires
-put-row-requires c κs = search needs
-
-array-copy-out-put-row-2 : tie.Need-array-copy-out-put-row-2
-array-copy-out-put-row-2 c = search needs
-
-put-row-requires-2 : tie.Need-put-row-requires-2
-put-row-requires-2 c κs = search needs
-
-array-copy-out-put-row-3 : tie.Need-array-copy-out-put-row-3
-array-copy-out-put-row-3 c = search needs
-
-put-row-requires-3 : tie.Need-put-row-requires-3
-put-row-requires-3 c κs = search needs
-
-array-copy-out-put-row-4 : tie.Need-array-copy-out-put-row-4
-array-copy-out-put-row-4 c = search needs
-
-put-row-requires-4 : tie.Need-put-row-requires-4
-put-row-requires-4 c κs = search needs
-
-array-copy-out-put-row-5 : tie.Need-array-copy-out-put-row-5
-array-copy-out-put-row-5 c = search needs
-
-put-row-requires-5 : tie.Need-put-row-requires-5
-put-row-requires-5 c κs = search needs
-
-slice-aggregate-put-2 : tie.Need-slice-aggregate-put-2
-slice-aggregate-put-2 c = search needs
-
-put-requires-2 : tie.Need-put-requires-2
-put-requires-2 c κs = search needs
-
-add-put : tie.Need-add-put
-add-put c = search needs
-
-slice-aggregate-put-3 : tie.Need-slice-aggregate-put-3
-slice-aggregate-put-3 c = search needs
-
-put-requires-3 : tie.Need-put-requires-3
-put-requires-3 c κs = search needs
-
 same-length : tie.Need-same-length
 same-length c =
     let end-zeros = c .before .before in
@@ -109,24 +55,8 @@ returns c =
 pub write-reply-spec : {M : Type 1} → statement M
 write-reply-spec =
     tie.close
-    (tie.spec
-    put-fixed-part-requires
-    slice-aggregate-put
-    put-requires
-    array-copy-out-put-row
-    put-row-requires
-    array-copy-out-put-row-2
-    put-row-requires-2
-    array-copy-out-put-row-3
-    put-row-requires-3
-    array-copy-out-put-row-4
-    put-row-requires-4
-    array-copy-out-put-row-5
-    put-row-requires-5
-    slice-aggregate-put-2
-    put-requires-2
-    add-put
-    slice-aggregate-put-3
-    put-requires-3
-    same-length
-    returns)
+    (tie.spec (λ c κs. search needs) (λ c. search needs) (λ c κs. search needs) (λ c. search needs)
+    (λ c κs. search needs) (λ c. search needs) (λ c κs. search needs) (λ c. search needs)
+    (λ c κs. search needs) (λ c. search needs) (λ c κs. search needs) (λ c. search needs)
+    (λ c κs. search needs) (λ c. search needs) (λ c κs. search needs) (λ c. search needs) (λ c. search needs)
+    (λ c κs. search needs) same-length returns)

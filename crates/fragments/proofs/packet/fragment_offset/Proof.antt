@@ -7,9 +7,6 @@ use borrow.Author.Needs.{needs}
 use Rattle.fragments.proofs.packet.fragment_offset.Statement.{statement}
 use Rattle.fragments.proofs.packet.fragment_offset.Tie as tie
 
-u16be-requires : tie.Need-u16be-requires
-u16be-requires c κs = search needs
-
 cast-result : tie.Need-cast-result
 cast-result c = record { fits = lt-of-le-of-lt {m = c .u16be .result} (and-le-l _ _) (omega arith) }
 
@@ -18,4 +15,4 @@ unfolding fragmentOffset
 returns c = omega (arith, and-mask (c .u16be .result) 13)
 
 pub fragment-offset-spec : {M : Type 1} → statement M
-fragment-offset-spec = tie.close (tie.spec u16be-requires cast-result returns)
+fragment-offset-spec = tie.close (tie.spec (λ c κs. search needs) cast-result returns)

@@ -13,25 +13,13 @@ use borrow.Author.Needs.{needs}
 use Rattle.fragments.proofs.packet.has_sound_header.Statement.{statement}
 use Rattle.fragments.proofs.packet.has_sound_header.Tie as tie
 
-byte-at-requires : tie.Need-byte-at-requires
-byte-at-requires c κs = search needs
-
 returns : tie.Need-returns
 unfolding soundHeader
 returns c = let p = c .before .before .before .args .packet .now in simp (ne-eqb (version p) 4 (λ e. c .if1 .taken (ap (λ (n : ℕ). n / 16) (c .before .byte-at .ensures) ∙ e)))
 
-header-length-requires : tie.Need-header-length-requires
-header-length-requires c κs = search needs
-
 returns-2 : tie.Need-returns-2
 unfolding soundHeader
 returns-2 c = let p = c .before .before .before .before .before .args .packet .now in simp (eq-eqb (version p) 4 (ap (λ (n : ℕ). n / 16) (sym (c .before .before .before .byte-at .ensures)) ∙ c .before .before .if1 .left), lt-leb 20 (headerLength p) (omega arith))
-
-u16be-requires : tie.Need-u16be-requires
-u16be-requires c κs = search needs
-
-cast-total : tie.Need-cast-total
-cast-total c = search needs
 
 returns-3 : tie.Need-returns-3
 unfolding soundHeader
@@ -43,9 +31,6 @@ returns-4 c = let p = c .before .before .before .before .before .before .before 
 
 slice-aggregate-sum : tie.Need-slice-aggregate-sum
 slice-aggregate-sum c = simp length-take (omega arith)
-
-sum-requires : tie.Need-sum-requires
-sum-requires c κs = search needs
 
 returns-5 : tie.Need-returns-5
 unfolding soundHeader
@@ -69,15 +54,5 @@ returns-5 c =
 pub has-sound-header-spec : {M : Type 1} → statement M
 has-sound-header-spec =
     tie.close
-    (tie.spec
-    byte-at-requires
-    returns
-    header-length-requires
-    returns-2
-    u16be-requires
-    cast-total
-    returns-3
-    returns-4
-    slice-aggregate-sum
-    sum-requires
-    returns-5)
+    (tie.spec (λ c κs. search needs) returns (λ c κs. search needs) returns-2 (λ c κs. search needs)
+    (λ c. search needs) returns-3 returns-4 slice-aggregate-sum (λ c κs. search needs) returns-5)

@@ -13,26 +13,11 @@ returns : tie.Need-returns
 unfolding sound
 returns c = simp (lt-leb 34 (length (c .before .before .args .frame .now)) (c .if1 .taken))
 
-eth-type-requires : tie.Need-eth-type-requires
-eth-type-requires c κs = search needs
-
 returns-2 : tie.Need-returns-2
 unfolding sound
 returns-2 c =
     let frame = c .before .before .before .before .args .frame .now in
     simp (le-leb 34 (length frame) (c .before .before .if1 .left), ne-eqb (typeOf frame) 0x0800 (λ e. c .if2 .taken (c .before .eth-type .ensures ∙ e)))
-
-sub-has-sound-header : tie.Need-sub-has-sound-header
-sub-has-sound-header c = search needs
-
-part-has-sound-header-start : tie.Need-part-has-sound-header-start
-part-has-sound-header-start c = search needs
-
-part-has-sound-header-end : tie.Need-part-has-sound-header-end
-part-has-sound-header-end c = search needs
-
-has-sound-header-requires : tie.Need-has-sound-header-requires
-has-sound-header-requires c κs = search needs
 
 returns-3 : tie.Need-returns-3
 unfolding sound
@@ -48,12 +33,5 @@ returns-3 c =
 pub is-sound-spec : {M : Type 1} → statement M
 is-sound-spec =
     tie.close
-    (tie.spec
-    returns
-    eth-type-requires
-    returns-2
-    sub-has-sound-header
-    part-has-sound-header-start
-    part-has-sound-header-end
-    has-sound-header-requires
-    returns-3)
+    (tie.spec returns (λ c κs. search needs) returns-2 (λ c. search needs) (λ c. search needs)
+    (λ c. search needs) (λ c κs. search needs) returns-3)

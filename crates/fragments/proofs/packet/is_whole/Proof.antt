@@ -5,15 +5,9 @@ use borrow.Author.Needs.{needs}
 use Rattle.fragments.proofs.packet.is_whole.Statement.{statement}
 use Rattle.fragments.proofs.packet.is_whole.Tie as tie
 
-more-fragments-requires : tie.Need-more-fragments-requires
-more-fragments-requires c κs = search needs
-
 returns : tie.Need-returns
 unfolding isWhole
 returns c = simp (sym (c .before .more-fragments .ensures), c .if1 .taken)
-
-fragment-offset-requires : tie.Need-fragment-offset-requires
-fragment-offset-requires c κs = search needs
 
 returns-2 : tie.Need-returns-2
 unfolding isWhole
@@ -21,4 +15,4 @@ returns-2 c = simp (sym (c .before .before .more-fragments .ensures), c .before 
 
 pub is-whole-spec : {M : Type 1} → statement M
 is-whole-spec =
-    tie.close (tie.spec more-fragments-requires returns fragment-offset-requires returns-2)
+    tie.close (tie.spec (λ c κs. search needs) returns (λ c κs. search needs) returns-2)

@@ -8,12 +8,9 @@ use borrow.Author.Needs.{needs}
 use Rattle.fragments.proofs.packet.more_fragments.Statement.{statement}
 use Rattle.fragments.proofs.packet.more_fragments.Tie as tie
 
-u16be-requires : tie.Need-u16be-requires
-u16be-requires c κs = search needs
-
 returns : tie.Need-returns
 unfolding moreFragments
 returns c = ap (λ (n : ℕ). eqb n 1) (and-mask (c .u16be .result / 8192) 1) ∙ ap (λ (n : ℕ). eqb (n / 8192 % 2) 1) (c .u16be .ensures)
 
 pub more-fragments-spec : {M : Type 1} → statement M
-more-fragments-spec = tie.close (tie.spec u16be-requires returns)
+more-fragments-spec = tie.close (tie.spec (λ c κs. search needs) returns)

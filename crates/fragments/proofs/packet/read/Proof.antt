@@ -46,9 +46,6 @@ module _ (frame : List ℕ) where
   part-of-one e w g le ed eh en eo em =
       rw (ed, eh, en, eo, em) (simp (e, w, g, le-leb (fragmentOffset p + payloadLength p) 65515 le))
 
-is-sound-requires : tie.Need-is-sound-requires
-is-sound-requires c κs = search needs
-
 returns : tie.Need-returns
 returns c = unsound (c .before .before .before .args .frame .now) (sym (c .before .is-sound .ensures) ∙ not-true (c .before .is-sound .result) (c .if1 .taken))
 
@@ -62,28 +59,10 @@ part-packet-start c =
     let f = c .before .before .before .args .frame .now in
     omega (arith, lengths f (sym (c .before .is-sound .ensures) ∙ not-false (c .before .is-sound .result) (c .if1 .left)) .long)
 
-part-packet-end : tie.Need-part-packet-end
-part-packet-end c = search needs
-
-header-length-requires : tie.Need-header-length-requires
-header-length-requires c κs = search needs
-
-add-start : tie.Need-add-start
-add-start c = search needs
-
-u16be-requires : tie.Need-u16be-requires
-u16be-requires c κs = search needs
-
-cast-length : tie.Need-cast-length
-cast-length c = search needs
-
 sub-length : tie.Need-sub-length
 sub-length c =
     let f = c .before .before .before .before .before .before .args .frame .now in
     omega (arith, lengths f (sym (c .before .before .before .before .is-sound .ensures) ∙ not-false (c .before .before .before .before .is-sound .result) (c .before .before .before .if1 .left)) .header-within, (c .before .header-length .ensures .0 ∙ ap headerLength (rest-of 14 f)), (c .u16be .ensures ∙ ap totalLength (rest-of 14 f)))
-
-is-whole-requires : tie.Need-is-whole-requires
-is-whole-requires c κs = search needs
 
 returns-2 : tie.Need-returns-2
 unfolding payloadLength
@@ -94,21 +73,12 @@ returns-2 c =
     (ap₂ (λ (t h : ℕ). t - h) (c .before .before .u16be .ensures ∙ ap totalLength (rest-of 14 f)) (c .before .before .before .header-length .ensures .0 ∙ ap headerLength (rest-of 14 f)))
     ∙ whole f (sym (c .before .before .before .before .before .before .is-sound .ensures) ∙ not-false (c .before .before .before .before .before .before .is-sound .result) (c .before .before .before .before .before .if1 .left)) (sym (c .before .is-whole .ensures ∙ ap isWhole (rest-of 14 f)) ∙ c .if2 .taken)
 
-more-fragments-requires : tie.Need-more-fragments-requires
-more-fragments-requires c κs = search needs
-
-is-good-length-requires : tie.Need-is-good-length-requires
-is-good-length-requires c κs = search needs
-
 returns-3 : tie.Need-returns-3
 unfolding payloadLength
 returns-3 c =
     let f = c .before .before .before .before .before .before .before .before .before .before .before .args .frame .now in
     bad-length f (sym (c .before .before .before .before .before .before .before .before .before .is-sound .ensures) ∙ not-false (c .before .before .before .before .before .before .before .before .before .is-sound .result) (c .before .before .before .before .before .before .before .before .if1 .left)) (sym (c .before .before .before .before .is-whole .ensures ∙ ap isWhole (rest-of 14 f)) ∙ c .before .before .before .if2 .left)
     (ap₂ goodLength (sym (c .before .before .more-fragments .ensures ∙ ap moreFragments (rest-of 14 f))) (sym (ap₂ (λ (t h : ℕ). t - h) (c .before .before .before .before .before .u16be .ensures ∙ ap totalLength (rest-of 14 f)) (c .before .before .before .before .before .before .header-length .ensures .0 ∙ ap headerLength (rest-of 14 f)))) ∙ sym (c .before .is-good-length .ensures) ∙ not-true (c .before .is-good-length .result) (c .if3 .taken))
-
-fragment-offset-requires : tie.Need-fragment-offset-requires
-fragment-offset-requires c κs = search needs
 
 add-if4 : tie.Need-add-if4
 add-if4 c =
@@ -122,9 +92,6 @@ returns-4 c =
     too-far f (sym (c .before .before .before .before .before .before .before .before .before .before .before .is-sound .ensures) ∙ not-false (c .before .before .before .before .before .before .before .before .before .before .before .is-sound .result) (c .before .before .before .before .before .before .before .before .before .before .if1 .left)) (sym (c .before .before .before .before .before .before .is-whole .ensures ∙ ap isWhole (rest-of 14 f)) ∙ c .before .before .before .before .before .if2 .left)
     (ap₂ goodLength (sym (c .before .before .before .before .more-fragments .ensures ∙ ap moreFragments (rest-of 14 f))) (sym (ap₂ (λ (t h : ℕ). t - h) (c .before .before .before .before .before .before .before .u16be .ensures ∙ ap totalLength (rest-of 14 f)) (c .before .before .before .before .before .before .before .before .header-length .ensures .0 ∙ ap headerLength (rest-of 14 f)))) ∙ sym (c .before .before .before .is-good-length .ensures) ∙ not-false (c .before .before .before .is-good-length .result) (c .before .before .if3 .left))
     (omega (arith, (c .before .fragment-offset .ensures .0 ∙ ap fragmentOffset (rest-of 14 f)), (ap₂ (λ (t h : ℕ). t - h) (c .before .before .before .before .before .before .before .u16be .ensures ∙ ap totalLength (rest-of 14 f)) (c .before .before .before .before .before .before .before .before .header-length .ensures .0 ∙ ap headerLength (rest-of 14 f)))))
-
-datagram-of-requires : tie.Need-datagram-of-requires
-datagram-of-requires c κs = search needs
 
 returns-5 : tie.Need-returns-5
 unfolding payloadLength
@@ -142,24 +109,7 @@ returns-5 c =
 pub read-spec : {M : Type 1} → statement M
 read-spec =
     tie.close
-    (tie.spec
-    is-sound-requires
-    returns
-    sub-packet
-    part-packet-start
-    part-packet-end
-    header-length-requires
-    add-start
-    u16be-requires
-    cast-length
-    sub-length
-    is-whole-requires
-    returns-2
-    more-fragments-requires
-    is-good-length-requires
-    returns-3
-    fragment-offset-requires
-    add-if4
-    returns-4
-    datagram-of-requires
-    returns-5)
+    (tie.spec (λ c κs. search needs) returns sub-packet part-packet-start (λ c. search needs)
+    (λ c κs. search needs) (λ c. search needs) (λ c κs. search needs) (λ c. search needs) sub-length
+    (λ c κs. search needs) returns-2 (λ c κs. search needs) (λ c κs. search needs) returns-3
+    (λ c κs. search needs) add-if4 returns-4 (λ c κs. search needs) returns-5)

@@ -5,12 +5,9 @@ use borrow.Author.Needs.{needs}
 use Rattle.fragments.proofs.ruling.blocks_of.Statement.{statement}
 use Rattle.fragments.proofs.ruling.blocks_of.Tie as tie
 
-add-result : tie.Need-add-result
-add-result c = search needs
-
 returns : tie.Need-returns
 unfolding blocksOf
 returns c = refl
 
 pub blocks-of-spec : {M : Type 1} → statement M
-blocks-of-spec = tie.close (tie.spec add-result returns)
+blocks-of-spec = tie.close (tie.spec (λ c. search needs) returns)

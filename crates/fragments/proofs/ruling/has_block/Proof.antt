@@ -9,15 +9,6 @@ use borrow.Author.Needs.{needs}
 use Rattle.fragments.proofs.ruling.has_block.Statement.{statement}
 use Rattle.fragments.proofs.ruling.has_block.Tie as tie
 
-add-blocks-of : tie.Need-add-blocks-of
-add-blocks-of c = search needs
-
-blocks-of-requires : tie.Need-blocks-of-requires
-blocks-of-requires c κs = search needs
-
-count-requires : tie.Need-count-requires
-count-requires c κs = search needs
-
 returns : tie.Need-returns
 unfolding overlaps
 returns c =
@@ -25,4 +16,6 @@ returns c =
     ap (λ (n : ℕ). not (eqb n 0)) (c .count .ensures ∙ ap (λ (n : ℕ). count (bit (a .bits .now)) (a .fragment .offset / 8) (n - a .fragment .offset / 8)) (c .before .blocks-of .ensures))
 
 pub has-block-spec : {M : Type 1} → statement M
-has-block-spec = tie.close (tie.spec add-blocks-of blocks-of-requires count-requires returns)
+has-block-spec =
+    tie.close
+    (tie.spec (λ c. search needs) (λ c κs. search needs) (λ c κs. search needs) returns)

@@ -10,31 +10,13 @@ use borrow.Author.Needs.{needs}
 use Rattle.fragments.proofs.ruling.has_wrong_end.Statement.{statement}
 use Rattle.fragments.proofs.ruling.has_wrong_end.Tie as tie
 
-add-stop : tie.Need-add-stop
-add-stop c = search needs
-
-enum-known-end : tie.Need-enum-known-end
-enum-known-end c = search needs
-
 returns : tie.Need-returns
 unfolding wrongEnd
 returns c = rw (c .before .before .end .given .1) (simp (c .if1 .taken))
 
-cast-result : tie.Need-cast-result
-cast-result c = search needs
-
-enum-told : tie.Need-enum-told
-enum-told c = search needs
-
 returns-2 : tie.Need-returns-2
 unfolding wrongEnd
 returns-2 c = rw (c .before .before .enum-told .given .1) (simp (not-true (c .before .before .before .before .before .before .args .fragment .last) (c .if2 .taken)))
-
-blocks-of-requires : tie.Need-blocks-of-requires
-blocks-of-requires c κs = search needs
-
-count-requires : tie.Need-count-requires
-count-requires c κs = search needs
 
 returns-3 : tie.Need-returns-3
 unfolding wrongEnd
@@ -50,14 +32,5 @@ returns-4 c =
 pub has-wrong-end-spec : {M : Type 1} → statement M
 has-wrong-end-spec =
     tie.close
-    (tie.spec
-    add-stop
-    enum-known-end
-    returns
-    cast-result
-    enum-told
-    returns-2
-    blocks-of-requires
-    count-requires
-    returns-3
-    returns-4)
+    (tie.spec (λ c. search needs) (λ c. search needs) returns (λ c. search needs) (λ c. search needs)
+    returns-2 (λ c κs. search needs) (λ c κs. search needs) returns-3 returns-4)

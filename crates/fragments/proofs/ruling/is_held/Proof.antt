@@ -6,18 +6,6 @@ use borrow.Author.Needs.{needs}
 use Rattle.fragments.proofs.ruling.is_held.Statement.{statement}
 use Rattle.fragments.proofs.ruling.is_held.Tie as tie
 
-enum-told : tie.Need-enum-told
-enum-told c = search needs
-
-enum-known-state : tie.Need-enum-known-state
-enum-known-state c = search needs
-
-is-same-requires : tie.Need-is-same-requires
-is-same-requires c κs = search needs
-
-enum-told-2 : tie.Need-enum-told-2
-enum-told-2 c = search needs
-
 returns : tie.Need-returns
 unfolding isHeld
 returns c = rw (c .enum-told .given .1) refl
@@ -33,4 +21,5 @@ returns-3 c = rw (c .enum-told2 .given .1) refl
 pub is-held-spec : {M : Type 1} → statement M
 is-held-spec =
     tie.close
-    (tie.spec enum-told enum-known-state is-same-requires enum-told-2 returns returns-2 returns-3)
+    (tie.spec (λ c. search needs) (λ c. search needs) (λ c κs. search needs) (λ c. search needs) returns
+    returns-2 returns-3)

@@ -5,15 +5,6 @@ use borrow.Author.Needs.{needs}
 use Rattle.fragments.proofs.ruling.known_end.Statement.{statement}
 use Rattle.fragments.proofs.ruling.known_end.Tie as tie
 
-enum-told : tie.Need-enum-told
-enum-told c = search needs
-
-enum-known-state : tie.Need-enum-known-state
-enum-known-state c = search needs
-
-enum-known-state-2 : tie.Need-enum-known-state-2
-enum-known-state-2 c = search needs
-
 returns : tie.Need-returns
 unfolding knownEnd
 returns c = rw (c .enum-told .given .1) refl
@@ -28,4 +19,5 @@ returns-3 c = rw (c .before .state2 .given .1) refl
 
 pub known-end-spec : {M : Type 1} → statement M
 known-end-spec =
-    tie.close (tie.spec enum-told enum-known-state enum-known-state-2 returns returns-2 returns-3)
+    tie.close
+    (tie.spec (λ c. search needs) (λ c. search needs) (λ c. search needs) returns returns-2 returns-3)

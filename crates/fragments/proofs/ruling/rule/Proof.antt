@@ -7,24 +7,9 @@ use borrow.Author.Needs.{needs}
 use Rattle.fragments.proofs.ruling.rule.Statement.{statement}
 use Rattle.fragments.proofs.ruling.rule.Tie as tie
 
-is-of-size-requires : tie.Need-is-of-size-requires
-is-of-size-requires c κs = search needs
-
 returns : tie.Need-returns
 unfolding ruling packetRuling
 returns c = simp (sym (c .before .is-of-size .ensures) ∙ not-true (c .before .is-of-size .result) (c .if1 .taken))
-
-read-requires : tie.Need-read-requires
-read-requires c κs = search needs
-
-enum-told : tie.Need-enum-told
-enum-told c = search needs
-
-enum-told-2 : tie.Need-enum-told-2
-enum-told-2 c = search needs
-
-enum-known-packet : tie.Need-enum-known-packet
-enum-known-packet c = search needs
 
 rule-part-requires : tie.Need-rule-part-requires
 rule-part-requires c κs = part-fits (c .before .before .before .before .before .before .before .before .args .frame .now) (c .before .packet .given .0 .0) (sym (c .before .before .before .read .ensures) ∙ c .before .packet .given .1) .short
@@ -44,14 +29,5 @@ returns-4 c = rw (sym (c .before .before .before .before .read .ensures) ∙ c .
 pub rule-spec : {M : Type 1} → statement M
 rule-spec =
     tie.close
-    (tie.spec
-    is-of-size-requires
-    returns
-    read-requires
-    enum-told
-    enum-told-2
-    enum-known-packet
-    rule-part-requires
-    returns-2
-    returns-3
-    returns-4)
+    (tie.spec (λ c κs. search needs) returns (λ c κs. search needs) (λ c. search needs) (λ c. search needs)
+    (λ c. search needs) rule-part-requires returns-2 returns-3 returns-4)

@@ -8,21 +8,9 @@ use borrow.Author.Needs.{needs}
 use Rattle.fragments.proofs.ruling.rule_part.Statement.{statement}
 use Rattle.fragments.proofs.ruling.rule_part.Tie as tie
 
-is-held-requires : tie.Need-is-held-requires
-is-held-requires c κs = search needs
-
 returns : tie.Need-returns
 unfolding partRuling
 returns c = simp (sym (c .before .is-held .ensures) ∙ c .if1 .taken)
-
-known-end-requires : tie.Need-known-end-requires
-known-end-requires c κs = search needs
-
-has-block-requires : tie.Need-has-block-requires
-has-block-requires c κs = search needs
-
-has-wrong-end-requires : tie.Need-has-wrong-end-requires
-has-wrong-end-requires c κs = search needs
 
 returns-2 : tie.Need-returns-2
 unfolding partRuling
@@ -34,9 +22,6 @@ returns-3 c =
     let a = c .before .before .before .before .before .before .before .before .args in
     simp (sym (c .before .before .before .before .before .before .is-held .ensures) ∙ c .before .before .before .before .before .if1 .left, sym (c .before .before .before .has-block .ensures) ∙ c .before .if2 .left, ap (λ (e : End). wrongEnd (a .fragment) e (bit (a .bits .now))) (sym (c .before .before .before .before .known-end .ensures)) ∙ sym (c .before .before .has-wrong-end .ensures) ∙ c .if3 .taken)
 
-end-with-requires : tie.Need-end-with-requires
-end-with-requires c κs = search needs
-
 returns-4 : tie.Need-returns-4
 unfolding partRuling
 returns-4 c =
@@ -47,13 +32,5 @@ returns-4 c =
 pub rule-part-spec : {M : Type 1} → statement M
 rule-part-spec =
     tie.close
-    (tie.spec
-    is-held-requires
-    returns
-    known-end-requires
-    has-block-requires
-    has-wrong-end-requires
-    returns-2
-    returns-3
-    end-with-requires
-    returns-4)
+    (tie.spec (λ c κs. search needs) returns (λ c κs. search needs) (λ c κs. search needs)
+    (λ c κs. search needs) returns-2 returns-3 (λ c κs. search needs) returns-4)

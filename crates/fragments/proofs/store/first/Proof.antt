@@ -6,9 +6,6 @@ use borrow.Author.Needs.{needs}
 use Rattle.fragments.proofs.store.first.Statement.{statement}
 use Rattle.fragments.proofs.store.first.Tie as tie
 
-slice-aggregate-result : tie.Need-slice-aggregate-result
-slice-aggregate-result c = search needs
-
 returns : tie.Need-returns
 returns c = simp (lt-leb (c .before .before .args .n) (length (c .before .before .args .bytes .now)) (c .before .if1 .taken))
 
@@ -19,4 +16,4 @@ returns-2 : tie.Need-returns-2
 returns-2 c = simp (le-leb (c .before .before .args .n) (length (c .before .before .args .bytes .now)) (c .before .if1 .left))
 
 pub first-spec : {M : Type 1} → statement M
-first-spec = tie.close (tie.spec slice-aggregate-result returns slice-aggregate-result-2 returns-2)
+first-spec = tie.close (tie.spec (λ c. search needs) returns slice-aggregate-result-2 returns-2)

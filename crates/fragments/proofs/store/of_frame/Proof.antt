@@ -9,35 +9,11 @@ use Rattle.fragments.proofs.Fitting.{whole-fits}
 use Rattle.fragments.proofs.store.of_frame.Statement.{statement}
 use Rattle.fragments.proofs.store.of_frame.Tie as tie
 
-read-requires : tie.Need-read-requires
-read-requires c κs = search needs
-
-enum-known-packet : tie.Need-enum-known-packet
-enum-known-packet c = search needs
-
 add-stop : tie.Need-add-stop
 add-stop c = let fits = whole-fits (c .before .before .before .before .before .args .frame .now) (c .before .packet .given .0 .0) (c .before .packet .given .0 .1 .0) (sym (c .before .before .before .read .ensures) ∙ c .before .packet .given .1) in search needs
 
-sub-result : tie.Need-sub-result
-sub-result c = search needs
-
-part-result-start : tie.Need-part-result-start
-part-result-start c = search needs
-
 part-result-end : tie.Need-part-result-end
 part-result-end c = let fits = whole-fits (c .before .before .before .before .before .args .frame .now) (c .before .packet .given .0 .0) (c .before .packet .given .0 .1 .0) (sym (c .before .before .before .read .ensures) ∙ c .before .packet .given .1) in search needs
-
-enum-told : tie.Need-enum-told
-enum-told c = search needs
-
-slice-aggregate-result : tie.Need-slice-aggregate-result
-slice-aggregate-result c = search needs
-
-enum-told-2 : tie.Need-enum-told-2
-enum-told-2 c = search needs
-
-slice-aggregate-result-2 : tie.Need-slice-aggregate-result-2
-slice-aggregate-result-2 c = search needs
 
 returns : tie.Need-returns
 unfolding wholePayload
@@ -58,17 +34,6 @@ returns-3 c = rw (sym (c .before .before .before .read .ensures) ∙ c .before .
 pub of-frame-spec : {M : Type 1} → statement M
 of-frame-spec =
     tie.close
-    (tie.spec
-    read-requires
-    enum-known-packet
-    add-stop
-    sub-result
-    part-result-start
-    part-result-end
-    enum-told
-    slice-aggregate-result
-    enum-told-2
-    slice-aggregate-result-2
-    returns
-    returns-2
-    returns-3)
+    (tie.spec (λ c κs. search needs) (λ c. search needs) add-stop (λ c. search needs) (λ c. search needs)
+    part-result-end (λ c. search needs) (λ c. search needs) (λ c. search needs) (λ c. search needs) returns
+    returns-2 returns-3)

@@ -5,27 +5,6 @@ use borrow.Author.Needs.{needs}
 use Rattle.fragments.proofs.store.of_store.Statement.{statement}
 use Rattle.fragments.proofs.store.of_store.Tie as tie
 
-enum-known-state : tie.Need-enum-known-state
-enum-known-state c = search needs
-
-cast-first : tie.Need-cast-first
-cast-first c = search needs
-
-first-requires : tie.Need-first-requires
-first-requires c κs = search needs
-
-enum-told : tie.Need-enum-told
-enum-told c = search needs
-
-slice-aggregate-result : tie.Need-slice-aggregate-result
-slice-aggregate-result c = search needs
-
-enum-told-2 : tie.Need-enum-told-2
-enum-told-2 c = search needs
-
-slice-aggregate-result-2 : tie.Need-slice-aggregate-result-2
-slice-aggregate-result-2 c = search needs
-
 returns : tie.Need-returns
 unfolding storedPayload
 returns c = rw (c .before .before .state .given .1) (c .first .ensures)
@@ -41,14 +20,5 @@ returns-3 c = rw (c .before .enum-told2 .given .1) refl
 pub of-store-spec : {M : Type 1} → statement M
 of-store-spec =
     tie.close
-    (tie.spec
-    enum-known-state
-    cast-first
-    first-requires
-    enum-told
-    slice-aggregate-result
-    enum-told-2
-    slice-aggregate-result-2
-    returns
-    returns-2
-    returns-3)
+    (tie.spec (λ c. search needs) (λ c. search needs) (λ c κs. search needs) (λ c. search needs)
+    (λ c. search needs) (λ c. search needs) (λ c. search needs) returns returns-2 returns-3)

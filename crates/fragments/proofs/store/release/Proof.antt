@@ -12,9 +12,6 @@ use Rattle.fragments.proofs.Storing.{of-size}
 use Rattle.fragments.proofs.store.release.Statement.{statement}
 use Rattle.fragments.proofs.store.release.Tie as tie
 
-is-of-size-requires : tie.Need-is-of-size-requires
-is-of-size-requires c κs = search needs
-
 returns : tie.Need-returns
 unfolding paper
 returns c =
@@ -22,12 +19,6 @@ returns c =
     let e : ofSize (length (a .bytes .now)) (length (a .bits .now)) ≡ false =
     sym (c .before .is-of-size .ensures) ∙ not-true (c .before .is-of-size .result) (c .if1 .taken) in
     record { answers = simp e; next = simp e; bits = simp e }
-
-clear-requires : tie.Need-clear-requires
-clear-requires c κs = search needs
-
-same-length : tie.Need-same-length
-same-length c = search needs
 
 returns-2 : tie.Need-returns-2
 unfolding paper
@@ -40,4 +31,4 @@ returns-2 c =
 
 pub release-spec : {M : Type 1} → statement M
 release-spec =
-    tie.close (tie.spec is-of-size-requires returns clear-requires same-length returns-2)
+    tie.close (tie.spec (λ c κs. search needs) returns (λ c κs. search needs) (λ c. search needs) returns-2)

@@ -10,18 +10,6 @@ use borrow.Author.Needs.{needs}
 use Rattle.fragments.proofs.store.settle.Statement.{statement}
 use Rattle.fragments.proofs.store.settle.Tie as tie
 
-enum-known-end : tie.Need-enum-known-end
-enum-known-end c = search needs
-
-cast-blocks-of : tie.Need-cast-blocks-of
-cast-blocks-of c = search needs
-
-blocks-of-requires : tie.Need-blocks-of-requires
-blocks-of-requires c κs = search needs
-
-count-requires : tie.Need-count-requires
-count-requires c κs = search needs
-
 returns : tie.Need-returns
 unfolding paper settled
 returns c =
@@ -31,15 +19,6 @@ returns c =
     let k : count there 0 n ≡ c .before .count .result = ap (count there 0) {x = n} {y = c .before .before .blocks-of .result - 0} (omega (arith, c .before .before .blocks-of .ensures)) ∙ sym (c .before .count .ensures) in
     let e = eq-eqb (count there 0 n) n (k ∙ c .if1 .taken ∙ c .before .before .blocks-of .ensures) in
     rw (c .before .before .before .before .end .given .1) (record { answers = simp e; next = simp e })
-
-filling-requires : tie.Need-filling-requires
-filling-requires c κs = search needs
-
-enum-told : tie.Need-enum-told
-enum-told c = search needs
-
-filling-requires-2 : tie.Need-filling-requires-2
-filling-requires-2 c κs = search needs
 
 returns-2 : tie.Need-returns-2
 unfolding paper settled
@@ -58,14 +37,5 @@ returns-3 c = rw (c .filling2 .ensures, c .before .enum-told .given .1) (record 
 pub settle-spec : {M : Type 1} → statement M
 settle-spec =
     tie.close
-    (tie.spec
-    enum-known-end
-    cast-blocks-of
-    blocks-of-requires
-    count-requires
-    returns
-    filling-requires
-    enum-told
-    filling-requires-2
-    returns-2
-    returns-3)
+    (tie.spec (λ c. search needs) (λ c. search needs) (λ c κs. search needs) (λ c κs. search needs) returns
+    (λ c κs. search needs) (λ c. search needs) (λ c κs. search needs) returns-2 returns-3)

@@ -10,18 +10,6 @@ use borrow.Author.Needs.{needs}
 use Rattle.fragments.proofs.store.take.Statement.{statement}
 use Rattle.fragments.proofs.store.take.Tie as tie
 
-rule-requires : tie.Need-rule-requires
-rule-requires c κs = search needs
-
-enum-known-ruling : tie.Need-enum-known-ruling
-enum-known-ruling c = search needs
-
-enum-told : tie.Need-enum-told
-enum-told c = search needs
-
-enum-known-ruling-2 : tie.Need-enum-known-ruling-2
-enum-known-ruling-2 c = search needs
-
 store-requires : tie.Need-store-requires
 store-requires c κs =
     let a = c .before .before .before .before .before .before .before .before .before .before .args in
@@ -29,25 +17,13 @@ store-requires c κs =
     let fits = part-fits (a .frame .now) (c .before .before .before .ruling2 .given .0 .0) (to-store .1 .is-part) in
     (fits .in-frame, (fits .short, of-size _ _ (to-store .0)))
 
-same-length : tie.Need-same-length
-same-length c = search needs
-
 returns : tie.Need-returns
 unfolding paper outcomeOf
 returns c = rw (sym (c .before .before .before .rule .ensures) ∙ c .before .ruling .given .1) (record { answers = refl; next = refl; store = record { kept-bytes = refl; kept-bits = refl } })
 
-same-length-2 : tie.Need-same-length-2
-same-length-2 c = search needs
-
 returns-2 : tie.Need-returns-2
 unfolding paper outcomeOf
 returns-2 c = rw (sym (c .before .before .rule .ensures) ∙ c .enum-told .given .1) (record { answers = refl; next = refl; store = record { kept-bytes = refl; kept-bits = refl } })
-
-same-length-3 : tie.Need-same-length-3
-same-length-3 c = search needs
-
-same-length-4 : tie.Need-same-length-4
-same-length-4 c = search needs
 
 returns-3 : tie.Need-returns-3
 unfolding outcomeOf
@@ -56,16 +32,6 @@ returns-3 c = rw (sym (c .before .before .before .before .before .before .before
 pub take-spec : {M : Type 1} → statement M
 take-spec =
     tie.close
-    (tie.spec
-    rule-requires
-    enum-known-ruling
-    enum-told
-    enum-known-ruling-2
-    store-requires
-    same-length
-    returns
-    same-length-2
-    returns-2
-    same-length-3
-    same-length-4
-    returns-3)
+    (tie.spec (λ c κs. search needs) (λ c. search needs) (λ c. search needs) (λ c. search needs)
+    store-requires (λ c. search needs) returns (λ c. search needs) returns-2 (λ c. search needs)
+    (λ c. search needs) returns-3)

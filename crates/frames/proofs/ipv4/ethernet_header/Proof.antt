@@ -5,59 +5,12 @@ use Rattle.frames.proofs.Lists.{all-bytes}
 use Rattle.frames.proofs.ipv4.ethernet_header.Statement.{statement}
 use Rattle.frames.proofs.ipv4.ethernet_header.Tie as tie
 
-array-read-t5 : tie.Need-array-read-t5
-array-read-t5 c = search needs
-
-array-read-t8 : tie.Need-array-read-t8
-array-read-t8 c = search needs
-
-array-read-t11 : tie.Need-array-read-t11
-array-read-t11 c = search needs
-
-array-read-t14 : tie.Need-array-read-t14
-array-read-t14 c = search needs
-
-array-read-t17 : tie.Need-array-read-t17
-array-read-t17 c = search needs
-
-array-read-t20 : tie.Need-array-read-t20
-array-read-t20 c = search needs
-
-array-read-t24 : tie.Need-array-read-t24
-array-read-t24 c = search needs
-
-array-read-t28 : tie.Need-array-read-t28
-array-read-t28 c = search needs
-
-array-read-t32 : tie.Need-array-read-t32
-array-read-t32 c = search needs
-
-array-read-t36 : tie.Need-array-read-t36
-array-read-t36 c = search needs
-
-array-read-t40 : tie.Need-array-read-t40
-array-read-t40 c = search needs
-
-array-read-t44 : tie.Need-array-read-t44
-array-read-t44 c = search needs
-
 returns : tie.Need-returns
 returns c = rw (all-bytes (c .args .t1) 6 (omega arith))
 
 pub ethernet-header-spec : {M : Type 1} → statement M
 ethernet-header-spec =
     tie.close
-    (tie.spec
-    array-read-t5
-    array-read-t8
-    array-read-t11
-    array-read-t14
-    array-read-t17
-    array-read-t20
-    array-read-t24
-    array-read-t28
-    array-read-t32
-    array-read-t36
-    array-read-t40
-    array-read-t44
-    returns)
+    (tie.spec (λ c. search needs) (λ c. search needs) (λ c. search needs) (λ c. search needs)
+    (λ c. search needs) (λ c. search needs) (λ c. search needs) (λ c. search needs) (λ c. search needs)
+    (λ c. search needs) (λ c. search needs) (λ c. search needs) returns)

@@ -7,24 +7,6 @@ use Rattle.frames.specs.Rfc791.{header, headerWith}
 use Rattle.frames.proofs.ipv4.header.Statement.{statement}
 use Rattle.frames.proofs.ipv4.header.Tie as tie
 
-cast-header-with : tie.Need-cast-header-with
-cast-header-with c = search needs
-
-header-with-requires : tie.Need-header-with-requires
-header-with-requires c κs = search needs
-
-slice-aggregate-checksum : tie.Need-slice-aggregate-checksum
-slice-aggregate-checksum c = search needs
-
-checksum-requires : tie.Need-checksum-requires
-checksum-requires c κs = search needs
-
-cast-header-with-2 : tie.Need-cast-header-with-2
-cast-header-with-2 c = search needs
-
-header-with-requires-2 : tie.Need-header-with-requires-2
-header-with-requires-2 c κs = search needs
-
 returns : tie.Need-returns
 unfolding header
 returns c =
@@ -34,11 +16,5 @@ returns c =
 pub header-spec : {M : Type 1} → statement M
 header-spec =
     tie.close
-    (tie.spec
-    cast-header-with
-    header-with-requires
-    slice-aggregate-checksum
-    checksum-requires
-    cast-header-with-2
-    header-with-requires-2
-    returns)
+    (tie.spec (λ c. search needs) (λ c κs. search needs) (λ c. search needs) (λ c κs. search needs)
+    (λ c. search needs) (λ c κs. search needs) returns)

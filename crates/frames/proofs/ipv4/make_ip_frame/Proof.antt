@@ -8,32 +8,11 @@ use Rattle.frames.proofs.Built.{refused-too-long, refused-no-room}
 use Rattle.frames.proofs.ipv4.make_ip_frame.Statement.{statement}
 use Rattle.frames.proofs.ipv4.make_ip_frame.Tie as tie
 
-refused-requires : tie.Need-refused-requires
-refused-requires c κs = search needs
-
 returns : tie.Need-returns
 returns c = rw (c .refused .ensures) (refused-too-long _ _ _ _ _ _ _ (c .before .if1 .taken))
 
-add-if2 : tie.Need-add-if2
-add-if2 c = search needs
-
-add-t13 : tie.Need-add-t13
-add-t13 c = search needs
-
-refused-requires-2 : tie.Need-refused-requires-2
-refused-requires-2 c κs = search needs
-
 returns-2 : tie.Need-returns-2
 returns-2 c = rw (c .refused2 .ensures) (refused-no-room _ _ _ _ _ _ _ _ (omega arith) (c .before .before .if1 .left) (c .before .if2 .taken))
-
-put-requires : tie.Need-put-requires
-put-requires c κs = search needs
-
-make-ip-frame-in-place-requires : tie.Need-make-ip-frame-in-place-requires
-make-ip-frame-in-place-requires c κs = search needs
-
-same-length : tie.Need-same-length
-same-length c = search needs
 
 returns-3 : tie.Need-returns-3
 returns-3 c =
@@ -44,14 +23,5 @@ returns-3 c =
 pub make-ip-frame-spec : {M : Type 1} → statement M
 make-ip-frame-spec =
     tie.close
-    (tie.spec
-    refused-requires
-    returns
-    add-if2
-    add-t13
-    refused-requires-2
-    returns-2
-    put-requires
-    make-ip-frame-in-place-requires
-    same-length
-    returns-3)
+    (tie.spec (λ c κs. search needs) returns (λ c. search needs) (λ c. search needs) (λ c κs. search needs)
+    returns-2 (λ c κs. search needs) (λ c κs. search needs) (λ c. search needs) returns-3)

@@ -15,38 +15,8 @@ use Rattle.frames.proofs.udp.make_udp_payload.Tie as tie
 returns : tie.Need-returns
 returns c = too-long _ _ _ _ _ _ (c .if1 .taken)
 
-add-if2 : tie.Need-add-if2
-add-if2 c = search needs
-
-add-t10 : tie.Need-add-t10
-add-t10 c = search needs
-
 returns-2 : tie.Need-returns-2
 returns-2 c = no-room _ _ _ _ _ _ (c .before .if1 .left) (c .if2 .taken)
-
-add-udp-header : tie.Need-add-udp-header
-add-udp-header c = search needs
-
-cast-udp-header : tie.Need-cast-udp-header
-cast-udp-header c = search needs
-
-udp-header-requires : tie.Need-udp-header-requires
-udp-header-requires c κs = search needs
-
-slice-aggregate-put : tie.Need-slice-aggregate-put
-slice-aggregate-put c = search needs
-
-put-requires : tie.Need-put-requires
-put-requires c κs = search needs
-
-put-requires-2 : tie.Need-put-requires-2
-put-requires-2 c κs = search needs
-
-add-t9 : tie.Need-add-t9
-add-t9 c = search needs
-
-same-length : tie.Need-same-length
-same-length c = search needs
 
 returns-3 : tie.Need-returns-3
 unfolding datagram
@@ -62,17 +32,6 @@ returns-3 c =
 pub make-udp-payload-spec : {M : Type 1} → statement M
 make-udp-payload-spec =
     tie.close
-    (tie.spec
-    returns
-    add-if2
-    add-t10
-    returns-2
-    add-udp-header
-    cast-udp-header
-    udp-header-requires
-    slice-aggregate-put
-    put-requires
-    put-requires-2
-    add-t9
-    same-length
-    returns-3)
+    (tie.spec returns (λ c. search needs) (λ c. search needs) returns-2 (λ c. search needs)
+    (λ c. search needs) (λ c κs. search needs) (λ c. search needs) (λ c κs. search needs)
+    (λ c κs. search needs) (λ c. search needs) (λ c. search needs) returns-3)

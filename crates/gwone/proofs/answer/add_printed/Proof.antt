@@ -8,39 +8,9 @@ use borrow.Author.Needs.{needs}
 use Rattle.gwone.proofs.answer.add_printed.Statement.{statement}
 use Rattle.gwone.proofs.answer.add_printed.Tie as tie
 
-slice-aggregate-add : tie.Need-slice-aggregate-add
-slice-aggregate-add c = search needs
-
-add-requires : tie.Need-add-requires
-add-requires c κs = search needs
-
-same-length : tie.Need-same-length
-same-length c = search needs
-
 returns : tie.Need-returns
 unfolding printed
 returns c = (rw (lt-ltb _ _ (c .before .before .before .before .before .if1 .taken)) (c .before .before .add .ensures), counted _ _ (omega arith))
-
-reply-space-requires : tie.Need-reply-space-requires
-reply-space-requires c κs = search needs
-
-new-requires : tie.Need-new-requires
-new-requires c κs = search needs
-
-slice-aggregate-handle : tie.Need-slice-aggregate-handle
-slice-aggregate-handle c = search needs
-
-handle-requires : tie.Need-handle-requires
-handle-requires c κs = search needs
-
-slice-aggregate-add-answer : tie.Need-slice-aggregate-add-answer
-slice-aggregate-add-answer c = search needs
-
-add-answer-requires : tie.Need-add-answer-requires
-add-answer-requires c κs = search needs
-
-same-length-2 : tie.Need-same-length-2
-same-length-2 c = search needs
 
 returns-2 : tie.Need-returns-2
 unfolding printed
@@ -54,16 +24,6 @@ returns-2 c =
 pub add-printed-spec : {M : Type 1} → statement M
 add-printed-spec =
     tie.close
-    (tie.spec
-    slice-aggregate-add
-    add-requires
-    same-length
-    returns
-    reply-space-requires
-    new-requires
-    slice-aggregate-handle
-    handle-requires
-    slice-aggregate-add-answer
-    add-answer-requires
-    same-length-2
-    returns-2)
+    (tie.spec (λ c. search needs) (λ c κs. search needs) (λ c. search needs) returns (λ c κs. search needs)
+    (λ c κs. search needs) (λ c. search needs) (λ c κs. search needs) (λ c. search needs)
+    (λ c κs. search needs) (λ c. search needs) returns-2)

@@ -6,23 +6,8 @@ use borrow.Author.Needs.{needs}
 use Rattle.gwone.proofs.answer.add_reply.Statement.{statement}
 use Rattle.gwone.proofs.answer.add_reply.Tie as tie
 
-slice-aggregate-add-one : tie.Need-slice-aggregate-add-one
-slice-aggregate-add-one c = search needs
-
-add-one-requires : tie.Need-add-one-requires
-add-one-requires c κs = search needs
-
-add-hex-requires : tie.Need-add-hex-requires
-add-hex-requires c κs = search needs
-
-slice-aggregate-add : tie.Need-slice-aggregate-add
-slice-aggregate-add c = search needs
-
 add-requires : tie.Need-add-requires
 add-requires c κs = omega (arith, length-hex (c .before .before .before .before .before .before .before .before .before .before .before .before .before .args .bytes .now))
-
-same-length : tie.Need-same-length
-same-length c = search needs
 
 returns : tie.Need-returns
 returns c =
@@ -35,11 +20,5 @@ returns c =
 pub add-reply-spec : {M : Type 1} → statement M
 add-reply-spec =
     tie.close
-    (tie.spec
-    slice-aggregate-add-one
-    add-one-requires
-    add-hex-requires
-    slice-aggregate-add
-    add-requires
-    same-length
-    returns)
+    (tie.spec (λ c. search needs) (λ c κs. search needs) (λ c κs. search needs) (λ c. search needs)
+    add-requires (λ c. search needs) returns)

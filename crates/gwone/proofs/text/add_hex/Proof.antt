@@ -21,18 +21,6 @@ loop-holds : tie.Need-loop-holds Inv-loop μ-loop
 unfolding hex
 loop-holds c = (search needs, search needs, search needs, nothing _ _)
 
-shared-slice-read-add-byte : tie.Need-shared-slice-read-add-byte Inv-loop μ-loop
-shared-slice-read-add-byte c = search needs
-
-add-byte-requires : tie.Need-add-byte-requires Inv-loop μ-loop
-add-byte-requires c κs = search needs
-
-add-i : tie.Need-add-i Inv-loop μ-loop
-add-i c = search needs
-
-loop-less : tie.Need-loop-less Inv-loop μ-loop
-loop-less c = search needs
-
 loop-again : tie.Need-loop-again Inv-loop μ-loop
 unfolding hex
 loop-again c =
@@ -46,23 +34,11 @@ loop-again c =
       rw (hex-more bytes i) (both (omega arith) (at-loop .loop .inv .3) (c .before .before .add-byte .ensures)),
     )
 
-same-length : tie.Need-same-length Inv-loop μ-loop
-same-length c = search needs
-
 returns : tie.Need-returns Inv-loop μ-loop
 returns c = rw (take-all _ _ (c .loop-test .left)) at (c .before .loop .inv .3)
 
 pub add-hex-spec : {M : Type 1} → statement M
 add-hex-spec =
     tie.close
-    (tie.spec
-    Inv-loop
-    μ-loop
-    loop-holds
-    shared-slice-read-add-byte
-    add-byte-requires
-    add-i
-    loop-less
-    loop-again
-    same-length
-    returns)
+    (tie.spec Inv-loop μ-loop loop-holds (λ c. search needs) (λ c κs. search needs) (λ c. search needs)
+    (λ c. search needs) loop-again (λ c. search needs) returns)

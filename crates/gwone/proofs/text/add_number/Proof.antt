@@ -8,28 +8,10 @@ use borrow.Author.Needs.{needs}
 use Rattle.gwone.proofs.text.add_number.Statement.{statement}
 use Rattle.gwone.proofs.text.add_number.Tie as tie
 
-decimal-requires : tie.Need-decimal-requires
-decimal-requires c κs = search needs
-
-slice-aggregate-add : tie.Need-slice-aggregate-add
-slice-aggregate-add c = search needs
-
-add-requires : tie.Need-add-requires
-add-requires c κs = search needs
-
-array-share-prefix-digits : tie.Need-array-share-prefix-digits
-array-share-prefix-digits c = search needs
-
-slice-aggregate-add-2 : tie.Need-slice-aggregate-add-2
-slice-aggregate-add-2 c = search needs
-
 add-requires-2 : tie.Need-add-requires-2
 add-requires-2 c κs =
     let at-decimal = c .before .before .before .before .before .before .before in
     omega (arith, at-most-20 _ _ (at-decimal .before .before .before .fits .number .fits) (at-decimal .decimal .ensures .1 .0))
-
-same-length : tie.Need-same-length
-same-length c = search needs
 
 returns : tie.Need-returns
 returns c =
@@ -43,12 +25,5 @@ returns c =
 pub add-number-spec : {M : Type 1} → statement M
 add-number-spec =
     tie.close
-    (tie.spec
-    decimal-requires
-    slice-aggregate-add
-    add-requires
-    array-share-prefix-digits
-    slice-aggregate-add-2
-    add-requires-2
-    same-length
-    returns)
+    (tie.spec (λ c κs. search needs) (λ c. search needs) (λ c κs. search needs) (λ c. search needs)
+    (λ c. search needs) add-requires-2 (λ c. search needs) returns)

@@ -8,18 +8,6 @@ use borrow.Author.Needs.{needs}
 use Rattle.host.proofs.builders.yavoledu_make_ip_frame.Statement.{statement}
 use Rattle.host.proofs.builders.yavoledu_make_ip_frame.Tie as tie
 
-of-id-requires : tie.Need-of-id-requires
-of-id-requires c κs = search needs
-
-make-ip-frame-requires : tie.Need-make-ip-frame-requires
-make-ip-frame-requires c κs = search needs
-
-stored-requires : tie.Need-stored-requires
-stored-requires c κs = search needs
-
-same-length : tie.Need-same-length
-same-length c = search needs
-
 returns : tie.Need-returns
 returns c =
     built-of _ _ _ _ (λ (i : ℕ). ipFrame _ i _ _ _ _) _ _ (ap (λ (g : Guest). g .id) (c .before .before .before .before .before .before .before .before .before .before .of-id .ensures)) (c .before .before .before .before .before .make-ip-frame .ensures) (c .stored .ensures .0) (c .stored .ensures .1)
@@ -27,4 +15,4 @@ returns c =
 pub yavoledu-make-ip-frame-spec : {M : Type 1} → statement M
 yavoledu-make-ip-frame-spec =
     tie.close
-    (tie.spec of-id-requires make-ip-frame-requires stored-requires same-length returns)
+    (tie.spec (λ c κs. search needs) (λ c κs. search needs) (λ c κs. search needs) (λ c. search needs) returns)

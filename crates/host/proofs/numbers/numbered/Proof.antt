@@ -11,54 +11,6 @@ use Rattle.host.proofs.numbers.numbered.Tie as tie
 as-told : {v w : Verdict} → v ≡ w → padded (paper w) ≡ padded (paper v)
 as-told e = ap (λ (x : Verdict). padded (paper x)) (sym e)
 
-enum-told : tie.Need-enum-told
-enum-told c = search needs
-
-told-requires : tie.Need-told-requires
-told-requires c κs = search needs
-
-enum-known-verdict : tie.Need-enum-known-verdict
-enum-known-verdict c = search needs
-
-told-requires-2 : tie.Need-told-requires-2
-told-requires-2 c κs = search needs
-
-enum-known-verdict-2 : tie.Need-enum-known-verdict-2
-enum-known-verdict-2 c = search needs
-
-told-requires-3 : tie.Need-told-requires-3
-told-requires-3 c κs = search needs
-
-enum-known-verdict-3 : tie.Need-enum-known-verdict-3
-enum-known-verdict-3 c = search needs
-
-told-requires-4 : tie.Need-told-requires-4
-told-requires-4 c κs = search needs
-
-enum-known-verdict-4 : tie.Need-enum-known-verdict-4
-enum-known-verdict-4 c = search needs
-
-told-requires-5 : tie.Need-told-requires-5
-told-requires-5 c κs = search needs
-
-enum-known-verdict-5 : tie.Need-enum-known-verdict-5
-enum-known-verdict-5 c = search needs
-
-told-requires-6 : tie.Need-told-requires-6
-told-requires-6 c κs = search needs
-
-enum-known-verdict-6 : tie.Need-enum-known-verdict-6
-enum-known-verdict-6 c = search needs
-
-told-requires-7 : tie.Need-told-requires-7
-told-requires-7 c κs = search needs
-
-enum-known-verdict-7 : tie.Need-enum-known-verdict-7
-enum-known-verdict-7 c = search needs
-
-told-requires-8 : tie.Need-told-requires-8
-told-requires-8 c κs = search needs
-
 returns : tie.Need-returns
 unfolding padded paper
 returns c = c .told .ensures ∙ as-told (c .before .before .enum-told .given .1)
@@ -94,28 +46,8 @@ returns-8 c = c .told8 .ensures ∙ as-told (c .before .before .before .verdict7
 pub numbered-spec : {M : Type 1} → statement M
 numbered-spec =
     tie.close
-    (tie.spec
-    enum-told
-    told-requires
-    enum-known-verdict
-    told-requires-2
-    enum-known-verdict-2
-    told-requires-3
-    enum-known-verdict-3
-    told-requires-4
-    enum-known-verdict-4
-    told-requires-5
-    enum-known-verdict-5
-    told-requires-6
-    enum-known-verdict-6
-    told-requires-7
-    enum-known-verdict-7
-    told-requires-8
-    returns
-    returns-2
-    returns-3
-    returns-4
-    returns-5
-    returns-6
-    returns-7
-    returns-8)
+    (tie.spec (λ c. search needs) (λ c κs. search needs) (λ c. search needs) (λ c κs. search needs)
+    (λ c. search needs) (λ c κs. search needs) (λ c. search needs) (λ c κs. search needs) (λ c. search needs)
+    (λ c κs. search needs) (λ c. search needs) (λ c κs. search needs) (λ c. search needs)
+    (λ c κs. search needs) (λ c. search needs) (λ c κs. search needs) returns returns-2 returns-3 returns-4
+    returns-5 returns-6 returns-7 returns-8)

@@ -7,48 +7,6 @@ use borrow.Author.Needs.{needs}
 use Rattle.host.proofs.reading.yavoledu_read.Statement.{statement}
 use Rattle.host.proofs.reading.yavoledu_read.Tie as tie
 
-read-requires : tie.Need-read-requires
-read-requires c κs = search needs
-
-enum-known-ethernet : tie.Need-enum-known-ethernet
-enum-known-ethernet c = search needs
-
-lay-requires : tie.Need-lay-requires
-lay-requires c κs = search needs
-
-enum-known-ethernet-2 : tie.Need-enum-known-ethernet-2
-enum-known-ethernet-2 c = search needs
-
-lay-requires-2 : tie.Need-lay-requires-2
-lay-requires-2 c κs = search needs
-
-enum-known-ethernet-3 : tie.Need-enum-known-ethernet-3
-enum-known-ethernet-3 c = search needs
-
-lay-requires-3 : tie.Need-lay-requires-3
-lay-requires-3 c κs = search needs
-
-enum-known-ethernet-4 : tie.Need-enum-known-ethernet-4
-enum-known-ethernet-4 c = search needs
-
-lay-requires-4 : tie.Need-lay-requires-4
-lay-requires-4 c κs = search needs
-
-enum-known-ethernet-5 : tie.Need-enum-known-ethernet-5
-enum-known-ethernet-5 c = search needs
-
-lay-requires-5 : tie.Need-lay-requires-5
-lay-requires-5 c κs = search needs
-
-enum-known-ethernet-6 : tie.Need-enum-known-ethernet-6
-enum-known-ethernet-6 c = search needs
-
-lay-requires-6 : tie.Need-lay-requires-6
-lay-requires-6 c κs = search needs
-
-enum-told : tie.Need-enum-told
-enum-told c = search needs
-
 returns : tie.Need-returns
 unfolding told numberOf kindNumber placesOf places
 returns c = reported-of (c .before .before .before .before .before .read .ensures) (c .before .before .before .ethernet .given .1) (c .lay .ensures .0) (c .lay .ensures .1)
@@ -80,25 +38,8 @@ returns-7 c = reported-of (c .before .before .read .ensures) (c .enum-told .give
 pub yavoledu-read-spec : {M : Type 1} → statement M
 yavoledu-read-spec =
     tie.close
-    (tie.spec
-    read-requires
-    enum-known-ethernet
-    lay-requires
-    enum-known-ethernet-2
-    lay-requires-2
-    enum-known-ethernet-3
-    lay-requires-3
-    enum-known-ethernet-4
-    lay-requires-4
-    enum-known-ethernet-5
-    lay-requires-5
-    enum-known-ethernet-6
-    lay-requires-6
-    enum-told
-    returns
-    returns-2
-    returns-3
-    returns-4
-    returns-5
-    returns-6
+    (tie.spec (λ c κs. search needs) (λ c. search needs) (λ c κs. search needs) (λ c. search needs)
+    (λ c κs. search needs) (λ c. search needs) (λ c κs. search needs) (λ c. search needs)
+    (λ c κs. search needs) (λ c. search needs) (λ c κs. search needs) (λ c. search needs)
+    (λ c κs. search needs) (λ c. search needs) returns returns-2 returns-3 returns-4 returns-5 returns-6
     returns-7)

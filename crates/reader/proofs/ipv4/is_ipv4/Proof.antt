@@ -12,41 +12,11 @@ use Rattle.reader.proofs.Reading.{tells-sums}
 use Rattle.reader.proofs.ipv4.is_ipv4.Statement.{statement}
 use Rattle.reader.proofs.ipv4.is_ipv4.Tie as tie
 
-byte-at-requires : tie.Need-byte-at-requires
-byte-at-requires c κs = search needs
-
-returns : tie.Need-returns
-returns c = search needs
-
-header-length-requires : tie.Need-header-length-requires
-header-length-requires c κs = search needs
-
-returns-2 : tie.Need-returns-2
-returns-2 c = search needs
-
-u16be-requires : tie.Need-u16be-requires
-u16be-requires c κs = search needs
-
-cast-total : tie.Need-cast-total
-cast-total c = search needs
-
-returns-3 : tie.Need-returns-3
-returns-3 c = search needs
-
-returns-4 : tie.Need-returns-4
-returns-4 c = search needs
-
-is-unfragmented-requires : tie.Need-is-unfragmented-requires
-is-unfragmented-requires c κs = search needs
-
 returns-5 : tie.Need-returns-5
 returns-5 c = λ a. tells-not {A = Unfragmented (c .before .before .before .before .before .before .before .before .before .before .args .packet .now)} (c .before .is-unfragmented .result) (c .before .is-unfragmented .ensures) (c .if5 .taken) (a .unfragmented)
 
 slice-aggregate-bytes : tie.Need-slice-aggregate-bytes
 slice-aggregate-bytes c = simp length-take (omega arith)
-
-sum-requires : tie.Need-sum-requires
-sum-requires c κs = search needs
 
 returns-6 : tie.Need-returns-6
 returns-6 c =
@@ -69,17 +39,6 @@ returns-6 c =
 pub is-ipv4-spec : {M : Type 1} → statement M
 is-ipv4-spec =
     tie.close
-    (tie.spec
-    byte-at-requires
-    returns
-    header-length-requires
-    returns-2
-    u16be-requires
-    cast-total
-    returns-3
-    returns-4
-    is-unfragmented-requires
-    returns-5
-    slice-aggregate-bytes
-    sum-requires
-    returns-6)
+    (tie.spec (λ c κs. search needs) (λ c. search needs) (λ c κs. search needs) (λ c. search needs)
+    (λ c κs. search needs) (λ c. search needs) (λ c. search needs) (λ c. search needs) (λ c κs. search needs)
+    returns-5 slice-aggregate-bytes (λ c κs. search needs) returns-6)

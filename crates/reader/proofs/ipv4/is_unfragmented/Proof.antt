@@ -8,9 +8,6 @@ use Rattle.messages.proofs.Telling.{tells-eq}
 use Rattle.reader.proofs.ipv4.is_unfragmented.Statement.{statement}
 use Rattle.reader.proofs.ipv4.is_unfragmented.Tie as tie
 
-u16be-requires : tie.Need-u16be-requires
-u16be-requires c κs = search needs
-
 returns : tie.Need-returns
 returns c = λ a. omega (arith, a .reserved)
 
@@ -30,4 +27,4 @@ returns-3 c =
     (λ a. omega (arith, offset, a .offset))
 
 pub is-unfragmented-spec : {M : Type 1} → statement M
-is-unfragmented-spec = tie.close (tie.spec u16be-requires returns returns-2 returns-3)
+is-unfragmented-spec = tie.close (tie.spec (λ c κs. search needs) returns returns-2 returns-3)

@@ -8,21 +8,6 @@ use Rattle.reader.proofs.Reading.{word-behind}
 use Rattle.reader.proofs.payloads.carries_dhcp.Statement.{statement}
 use Rattle.reader.proofs.payloads.carries_dhcp.Tie as tie
 
-header-length-requires : tie.Need-header-length-requires
-header-length-requires c κs = search needs
-
-add-u16be : tie.Need-add-u16be
-add-u16be c = search needs
-
-u16be-requires : tie.Need-u16be-requires
-u16be-requires c κs = search needs
-
-add-u16be-2 : tie.Need-add-u16be-2
-add-u16be-2 c = search needs
-
-u16be-requires-2 : tie.Need-u16be-requires-2
-u16be-requires-2 c κs = search needs
-
 returns : tie.Need-returns
 returns c =
     let p = c .before .before .before .before .before .args .packet .now in
@@ -52,12 +37,5 @@ returns-3 c =
 pub carries-dhcp-spec : {M : Type 1} → statement M
 carries-dhcp-spec =
     tie.close
-    (tie.spec
-    header-length-requires
-    add-u16be
-    u16be-requires
-    add-u16be-2
-    u16be-requires-2
-    returns
-    returns-2
-    returns-3)
+    (tie.spec (λ c κs. search needs) (λ c. search needs) (λ c κs. search needs) (λ c. search needs)
+    (λ c κs. search needs) returns returns-2 returns-3)

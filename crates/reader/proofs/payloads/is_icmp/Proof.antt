@@ -11,27 +11,12 @@ use Rattle.reader.proofs.Reading.{tells-sums, rest}
 use Rattle.reader.proofs.payloads.is_icmp.Statement.{statement}
 use Rattle.reader.proofs.payloads.is_icmp.Tie as tie
 
-header-length-requires : tie.Need-header-length-requires
-header-length-requires c κs = search needs
-
-sub-message : tie.Need-sub-message
-sub-message c = search needs
-
-part-message-start : tie.Need-part-message-start
-part-message-start c = search needs
-
-part-message-end : tie.Need-part-message-end
-part-message-end c = search needs
-
 returns : tie.Need-returns
 returns c =
     let p : List ℕ = c .before .before .before .before .args .packet .now in
     let e = rest p (c .before .before .header-length .result) (headerLength p) (c .before .before .header-length .ensures .0) in
     let len = ap length e in
     λ a. omega (arith, len, a .size)
-
-sum-requires : tie.Need-sum-requires
-sum-requires c κs = search needs
 
 returns-2 : tie.Need-returns-2
 returns-2 c =
@@ -46,11 +31,5 @@ returns-2 c =
 pub is-icmp-spec : {M : Type 1} → statement M
 is-icmp-spec =
     tie.close
-    (tie.spec
-    header-length-requires
-    sub-message
-    part-message-start
-    part-message-end
-    returns
-    sum-requires
-    returns-2)
+    (tie.spec (λ c κs. search needs) (λ c. search needs) (λ c. search needs) (λ c. search needs) returns
+    (λ c κs. search needs) returns-2)

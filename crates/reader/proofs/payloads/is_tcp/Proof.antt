@@ -9,21 +9,12 @@ use Rattle.messages.proofs.Telling.{tells-same}
 use Rattle.reader.proofs.payloads.is_tcp.Statement.{statement}
 use Rattle.reader.proofs.payloads.is_tcp.Tie as tie
 
-header-length-requires : tie.Need-header-length-requires
-header-length-requires c κs = search needs
-
-sub-size : tie.Need-sub-size
-sub-size c = search needs
-
 returns : tie.Need-returns
 returns c =
     let p : List ℕ = c .before .before .before .args .packet .now in
     let header = c .before .header-length .ensures .0 in
     let size = length-drop (headerLength p) p in
     λ a. omega (arith, header, size, a .size)
-
-tcp-header-length-requires : tie.Need-tcp-header-length-requires
-tcp-header-length-requires c κs = search needs
 
 returns-2 : tie.Need-returns-2
 returns-2 c = λ a. omega (arith, c .before .tcp-header-length .ensures .0, a .least-offset)
@@ -34,9 +25,6 @@ returns-3 c =
     let header = c .before .before .before .before .header-length .ensures .0 in
     let size = length-drop (headerLength p) p in
     λ a. omega (arith, header, size, c .before .before .tcp-header-length .ensures .0, a .inside)
-
-sums-with-pseudo-header-requires : tie.Need-sums-with-pseudo-header-requires
-sums-with-pseudo-header-requires c κs = search needs
 
 returns-4 : tie.Need-returns-4
 returns-4 c =
@@ -59,12 +47,5 @@ returns-4 c =
 pub is-tcp-spec : {M : Type 1} → statement M
 is-tcp-spec =
     tie.close
-    (tie.spec
-    header-length-requires
-    sub-size
-    returns
-    tcp-header-length-requires
-    returns-2
-    returns-3
-    sums-with-pseudo-header-requires
-    returns-4)
+    (tie.spec (λ c κs. search needs) (λ c. search needs) returns (λ c κs. search needs) returns-2 returns-3
+    (λ c κs. search needs) returns-4)

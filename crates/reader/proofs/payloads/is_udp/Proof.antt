@@ -12,18 +12,6 @@ use Rattle.reader.proofs.Reading.{rest, has-to-sum}
 use Rattle.reader.proofs.payloads.is_udp.Statement.{statement}
 use Rattle.reader.proofs.payloads.is_udp.Tie as tie
 
-header-length-requires : tie.Need-header-length-requires
-header-length-requires c κs = search needs
-
-sub-datagram : tie.Need-sub-datagram
-sub-datagram c = search needs
-
-part-datagram-start : tie.Need-part-datagram-start
-part-datagram-start c = search needs
-
-part-datagram-end : tie.Need-part-datagram-end
-part-datagram-end c = search needs
-
 returns : tie.Need-returns
 returns c =
     let p : List ℕ = c .before .before .before .before .args .packet .now in
@@ -31,21 +19,12 @@ returns c =
     let len = ap length e in
     λ a. omega (arith, len, a .size)
 
-u16be-requires : tie.Need-u16be-requires
-u16be-requires c κs = search needs
-
-cast-if2 : tie.Need-cast-if2
-cast-if2 c = search needs
-
 returns-2 : tie.Need-returns-2
 returns-2 c =
     let p : List ℕ = c .before .before .before .before .before .before .args .packet .now in
     let e = rest p (c .before .before .before .before .header-length .result) (headerLength p) (c .before .before .before .before .header-length .ensures .0) in
     let len = ap length e in
     λ a. c .if2 .taken (c .before .u16be .ensures ∙ ap (λ (m : List ℕ). u16At m 4) e ∙ a .stated ∙ sym len)
-
-u16be-requires-2 : tie.Need-u16be-requires-2
-u16be-requires-2 c κs = search needs
 
 returns-3 : tie.Need-returns-3
 returns-3 c =
@@ -59,9 +38,6 @@ returns-3 c =
       stated = sym (c .before .before .before .u16be .ensures ∙ ap (λ (m : List ℕ). u16At m 4) e) ∙ c .before .before .if2 .left ∙ len;
       sums = unsummed (sym (c .before .u16be2 .ensures ∙ ap (λ (m : List ℕ). u16At m 6) e) ∙ c .if3 .taken);
     }
-
-sums-with-pseudo-header-requires : tie.Need-sums-with-pseudo-header-requires
-sums-with-pseudo-header-requires c κs = search needs
 
 returns-4 : tie.Need-returns-4
 returns-4 c =
@@ -83,16 +59,6 @@ returns-4 c =
 pub is-udp-spec : {M : Type 1} → statement M
 is-udp-spec =
     tie.close
-    (tie.spec
-    header-length-requires
-    sub-datagram
-    part-datagram-start
-    part-datagram-end
-    returns
-    u16be-requires
-    cast-if2
-    returns-2
-    u16be-requires-2
-    returns-3
-    sums-with-pseudo-header-requires
-    returns-4)
+    (tie.spec (λ c κs. search needs) (λ c. search needs) (λ c. search needs) (λ c. search needs) returns
+    (λ c κs. search needs) (λ c. search needs) returns-2 (λ c κs. search needs) returns-3
+    (λ c κs. search needs) returns-4)

@@ -12,48 +12,6 @@ use Rattle.reader.proofs.Reading.{tells-sums, rest}
 use Rattle.reader.proofs.payloads.sums_with_pseudo_header.Statement.{statement}
 use Rattle.reader.proofs.payloads.sums_with_pseudo_header.Tie as tie
 
-header-length-requires : tie.Need-header-length-requires
-header-length-requires c κs = search needs
-
-address-at-requires : tie.Need-address-at-requires
-address-at-requires c κs = search needs
-
-address-at-requires-2 : tie.Need-address-at-requires-2
-address-at-requires-2 c κs = search needs
-
-byte-at-requires : tie.Need-byte-at-requires
-byte-at-requires c κs = search needs
-
-u16be-requires : tie.Need-u16be-requires
-u16be-requires c κs = search needs
-
-cast-pseudo-header : tie.Need-cast-pseudo-header
-cast-pseudo-header c = search needs
-
-sub-pseudo-header : tie.Need-sub-pseudo-header
-sub-pseudo-header c = search needs
-
-pseudo-header-requires : tie.Need-pseudo-header-requires
-pseudo-header-requires c κs = search needs
-
-sub-segment : tie.Need-sub-segment
-sub-segment c = search needs
-
-part-segment-start : tie.Need-part-segment-start
-part-segment-start c = search needs
-
-part-segment-end : tie.Need-part-segment-end
-part-segment-end c = search needs
-
-slice-aggregate-sum : tie.Need-slice-aggregate-sum
-slice-aggregate-sum c = search needs
-
-sum-requires : tie.Need-sum-requires
-sum-requires c κs = search needs
-
-sum-requires-2 : tie.Need-sum-requires-2
-sum-requires-2 c κs = search needs
-
 returns : tie.Need-returns
 returns c =
     let p : List ℕ = c .before .before .before .before .before .before .before .before .before .before .before .args .packet .now in
@@ -72,19 +30,7 @@ returns c =
 pub sums-with-pseudo-header-spec : {M : Type 1} → statement M
 sums-with-pseudo-header-spec =
     tie.close
-    (tie.spec
-    header-length-requires
-    address-at-requires
-    address-at-requires-2
-    byte-at-requires
-    u16be-requires
-    cast-pseudo-header
-    sub-pseudo-header
-    pseudo-header-requires
-    sub-segment
-    part-segment-start
-    part-segment-end
-    slice-aggregate-sum
-    sum-requires
-    sum-requires-2
+    (tie.spec (λ c κs. search needs) (λ c κs. search needs) (λ c κs. search needs) (λ c κs. search needs)
+    (λ c κs. search needs) (λ c. search needs) (λ c. search needs) (λ c κs. search needs) (λ c. search needs)
+    (λ c. search needs) (λ c. search needs) (λ c. search needs) (λ c κs. search needs) (λ c κs. search needs)
     returns)

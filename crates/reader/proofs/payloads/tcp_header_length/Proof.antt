@@ -6,21 +6,10 @@ use Rattle.reader.proofs.Reading.{byte-behind}
 use Rattle.reader.proofs.payloads.tcp_header_length.Statement.{statement}
 use Rattle.reader.proofs.payloads.tcp_header_length.Tie as tie
 
-header-length-requires : tie.Need-header-length-requires
-header-length-requires c κs = search needs
-
-add-byte-at : tie.Need-add-byte-at
-add-byte-at c = search needs
-
-byte-at-requires : tie.Need-byte-at-requires
-byte-at-requires c κs = search needs
-
-cast-result : tie.Need-cast-result
-cast-result c = search needs
-
 returns : tie.Need-returns
 returns c = let at = c .byte-at .ensures ∙ byte-behind (c .before .before .before .args .packet .now) _ _ 12 (c .before .header-length .ensures .0) in omega (arith, at)
 
 pub tcp-header-length-spec : {M : Type 1} → statement M
 tcp-header-length-spec =
-    tie.close (tie.spec header-length-requires add-byte-at byte-at-requires cast-result returns)
+    tie.close
+    (tie.spec (λ c κs. search needs) (λ c. search needs) (λ c κs. search needs) (λ c. search needs) returns)

@@ -12,12 +12,6 @@ returns : tie.Need-returns
 unfolding decision
 returns c = simp (lt-ltb _ 14 (c .if1 .taken))
 
-eth-type-requires : tie.Need-eth-type-requires
-eth-type-requires c κs = search needs
-
-decide-arp-requires : tie.Need-decide-arp-requires
-decide-arp-requires c κs = search needs
-
 returns-2 : tie.Need-returns-2
 unfolding decision
 returns-2 c =
@@ -28,9 +22,6 @@ returns-2 c =
       le-ltb (length frame) 14 (c .before .before .before .if1 .left),
       eq-eqb (typeOf frame) 0x0806 (sym kind ∙ c .before .if2 .taken),
     )
-
-decide-ip-requires : tie.Need-decide-ip-requires
-decide-ip-requires c κs = search needs
 
 returns-3 : tie.Need-returns-3
 unfolding decision
@@ -58,11 +49,5 @@ returns-4 c =
 pub decide-spec : {M : Type 1} → statement M
 decide-spec =
     tie.close
-    (tie.spec
-    returns
-    eth-type-requires
-    decide-arp-requires
-    returns-2
-    decide-ip-requires
-    returns-3
+    (tie.spec returns (λ c κs. search needs) (λ c κs. search needs) returns-2 (λ c κs. search needs) returns-3
     returns-4)

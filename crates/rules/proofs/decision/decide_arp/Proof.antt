@@ -18,21 +18,12 @@ returns : tie.Need-returns
 unfolding arpDecision
 returns c = simp (lt-ltb _ 42 (c .if1 .taken))
 
-u16be-requires : tie.Need-u16be-requires
-u16be-requires c κs = search needs
-
 returns-2 : tie.Need-returns-2
 unfolding arpDecision
 returns-2 c =
     let frame = c .before .before .before .before .args .frame .now in
     let op : c .before .u16be .result ≡ operation (body frame) = simp getD-drop (c .before .u16be .ensures) in
     simp (le-ltb (length frame) 42 (c .before .before .if1 .left), ne-eqb (operation (body frame)) 1 (λ e. c .if2 .taken (op ∙ e)))
-
-address-at-requires : tie.Need-address-at-requires
-address-at-requires c κs = search needs
-
-same-requires : tie.Need-same-requires
-same-requires c κs = search needs
 
 returns-3 : tie.Need-returns-3
 unfolding arpDecision
@@ -61,11 +52,5 @@ returns-4 c =
 pub decide-arp-spec : {M : Type 1} → statement M
 decide-arp-spec =
     tie.close
-    (tie.spec
-    returns
-    u16be-requires
-    returns-2
-    address-at-requires
-    same-requires
-    returns-3
+    (tie.spec returns (λ c κs. search needs) returns-2 (λ c κs. search needs) (λ c κs. search needs) returns-3
     returns-4)

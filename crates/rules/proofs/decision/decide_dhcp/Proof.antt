@@ -13,20 +13,11 @@ returns : tie.Need-returns
 unfolding dhcpDecision
 returns c = simp (lt-ltb _ 240 (c .if1 .taken))
 
-byte-at-requires : tie.Need-byte-at-requires
-byte-at-requires c κs = search needs
-
 returns-2 : tie.Need-returns-2
 unfolding dhcpDecision
 returns-2 c =
     let message = c .before .before .before .before .args .message .now in
     simp (le-ltb (length message) 240 (c .before .before .if1 .left), ne-eqb (operation message) 1 (λ e. c .if2 .taken (c .before .byte-at .ensures ∙ e)))
-
-u32be-requires : tie.Need-u32be-requires
-u32be-requires c κs = search needs
-
-u32be-requires-2 : tie.Need-u32be-requires-2
-u32be-requires-2 c κs = search needs
 
 returns-3 : tie.Need-returns-3
 unfolding dhcpDecision
@@ -38,12 +29,6 @@ returns-3 c =
       eq-eqb (operation message) 1 (sym (c .before .before .before .before .byte-at .ensures) ∙ c .before .before .before .if2 .left),
       ne-eqb (magicCookie message) 0x63825363 (λ e. c .if3 .taken (c .before .u32be2 .ensures ∙ e)),
     )
-
-message-type-requires : tie.Need-message-type-requires
-message-type-requires c κs = search needs
-
-decide-type-requires : tie.Need-decide-type-requires
-decide-type-requires c κs = search needs
 
 returns-4 : tie.Need-returns-4
 unfolding dhcpDecision
@@ -60,13 +45,5 @@ returns-4 c =
 pub decide-dhcp-spec : {M : Type 1} → statement M
 decide-dhcp-spec =
     tie.close
-    (tie.spec
-    returns
-    byte-at-requires
-    returns-2
-    u32be-requires
-    u32be-requires-2
-    returns-3
-    message-type-requires
-    decide-type-requires
-    returns-4)
+    (tie.spec returns (λ c κs. search needs) returns-2 (λ c κs. search needs) (λ c κs. search needs) returns-3
+    (λ c κs. search needs) (λ c κs. search needs) returns-4)

@@ -14,12 +14,6 @@ use borrow.Author.Needs.{needs}
 use Rattle.rules.proofs.decision.decide_icmp.Statement.{statement}
 use Rattle.rules.proofs.decision.decide_icmp.Tie as tie
 
-ip-dst-requires : tie.Need-ip-dst-requires
-ip-dst-requires c κs = search needs
-
-same-requires : tie.Need-same-requires
-same-requires c κs = search needs
-
 returns : tie.Need-returns
 returns c =
     let start = c .before .before .before .before .before in
@@ -27,12 +21,6 @@ returns c =
     let net = start .args .net in
     let ours = ap (λ (l : List ℕ). same l (net .gateway)) (sym (c .before .before .ip-dst .ensures)) ∙ sym (c .before .same .ensures) ∙ not-true _ (c .if1 .taken) in
     not-ours net frame ours
-
-ip-hlen-requires : tie.Need-ip-hlen-requires
-ip-hlen-requires c κs = search needs
-
-add-start : tie.Need-add-start
-add-start c = search needs
 
 returns-2 : tie.Need-returns-2
 returns-2 c =
@@ -43,9 +31,6 @@ returns-2 c =
     let at : 14 + c .before .ip-hlen .result ≡ payloadAt frame = ap (λ (n : ℕ). 14 + n) (c .before .ip-hlen .ensures) in
     starts-past net frame ours (omega (arith, at, c .if2 .taken))
 
-payload-length-requires : tie.Need-payload-length-requires
-payload-length-requires c κs = search needs
-
 returns-3 : tie.Need-returns-3
 returns-3 c =
     let start = c .before .before .before .before .before .before .before .before .before in
@@ -55,9 +40,6 @@ returns-3 c =
     let at : 14 + c .before .before .before .ip-hlen .result ≡ payloadAt frame = ap (λ (n : ℕ). 14 + n) (c .before .before .before .ip-hlen .ensures) in
     let size = c .before .payload-length .ensures ∙ ap (λ (n : ℕ). length frame - n) at in
     no-header net frame ours (omega (arith, at, c .before .before .if2 .left)) _ size (c .if3 .taken)
-
-byte-at-requires : tie.Need-byte-at-requires
-byte-at-requires c κs = search needs
 
 returns-4 : tie.Need-returns-4
 returns-4 c =
@@ -95,16 +77,5 @@ returns-6 c =
 pub decide-icmp-spec : {M : Type 1} → statement M
 decide-icmp-spec =
     tie.close
-    (tie.spec
-    ip-dst-requires
-    same-requires
-    returns
-    ip-hlen-requires
-    add-start
-    returns-2
-    payload-length-requires
-    returns-3
-    byte-at-requires
-    returns-4
-    returns-5
-    returns-6)
+    (tie.spec (λ c κs. search needs) (λ c κs. search needs) returns (λ c κs. search needs) (λ c. search needs)
+    returns-2 (λ c κs. search needs) returns-3 (λ c κs. search needs) returns-4 returns-5 returns-6)

@@ -13,12 +13,6 @@ returns : tie.Need-returns
 unfolding ipDecision
 returns c = simp (lt-ltb _ 34 (c .if1 .taken))
 
-ip-proto-requires : tie.Need-ip-proto-requires
-ip-proto-requires c κs = search needs
-
-decide-icmp-requires : tie.Need-decide-icmp-requires
-decide-icmp-requires c κs = search needs
-
 returns-2 : tie.Need-returns-2
 unfolding ipDecision
 returns-2 c =
@@ -40,9 +34,6 @@ returns-3 c =
       ne-eqb (protocolOf (body frame)) 1 (λ e. c .before .if2 .left (proto ∙ e)),
       eq-eqb (protocolOf (body frame)) 6 (sym proto ∙ c .if3 .taken),
     )
-
-decide-udp-requires : tie.Need-decide-udp-requires
-decide-udp-requires c κs = search needs
 
 returns-4 : tie.Need-returns-4
 unfolding ipDecision
@@ -72,12 +63,5 @@ returns-5 c =
 pub decide-ip-spec : {M : Type 1} → statement M
 decide-ip-spec =
     tie.close
-    (tie.spec
-    returns
-    ip-proto-requires
-    decide-icmp-requires
-    returns-2
-    returns-3
-    decide-udp-requires
-    returns-4
-    returns-5)
+    (tie.spec returns (λ c κs. search needs) (λ c κs. search needs) returns-2 returns-3 (λ c κs. search needs)
+    returns-4 returns-5)

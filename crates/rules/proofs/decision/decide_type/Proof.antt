@@ -9,19 +9,10 @@ use borrow.Author.Needs.{needs}
 use Rattle.rules.proofs.decision.decide_type.Statement.{statement}
 use Rattle.rules.proofs.decision.decide_type.Tie as tie
 
-enum-known-found : tie.Need-enum-known-found
-enum-known-found c = search needs
-
-reply-type-requires : tie.Need-reply-type-requires
-reply-type-requires c κs = search needs
-
 returns : tie.Need-returns
 returns c =
     let xid = c .before .before .before .before .before .args .xid in
     simp (eq-eqb _ 0 (sym (c .before .reply-type .ensures) ∙ c .if1 .taken)) at (sym (ap (λ (f : Found). typeDecision xid (told f)) (c .before .before .before .found .given .1)))
-
-enum-known-found-2 : tie.Need-enum-known-found-2
-enum-known-found-2 c = search needs
 
 returns-2 : tie.Need-returns-2
 returns-2 c =
@@ -37,4 +28,4 @@ returns-3 c =
 pub decide-type-spec : {M : Type 1} → statement M
 decide-type-spec =
     tie.close
-    (tie.spec enum-known-found reply-type-requires returns enum-known-found-2 returns-2 returns-3)
+    (tie.spec (λ c. search needs) (λ c κs. search needs) returns (λ c. search needs) returns-2 returns-3)

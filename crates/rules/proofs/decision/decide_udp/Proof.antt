@@ -16,15 +16,6 @@ use borrow.Author.Needs.{needs}
 use Rattle.rules.proofs.decision.decide_udp.Statement.{statement}
 use Rattle.rules.proofs.decision.decide_udp.Tie as tie
 
-ip-dst-requires : tie.Need-ip-dst-requires
-ip-dst-requires c κs = search needs
-
-ip-hlen-requires : tie.Need-ip-hlen-requires
-ip-hlen-requires c κs = search needs
-
-add-header : tie.Need-add-header
-add-header c = search needs
-
 returns : tie.Need-returns
 returns c =
     let start = c .before .before .before .before .before in
@@ -32,9 +23,6 @@ returns c =
     let net = start .args .net in
     let at : 14 + c .before .ip-hlen .result ≡ payloadAt frame = ap (λ (n : ℕ). 14 + n) (c .before .ip-hlen .ensures) in
     udp-past net frame (omega (arith, at, c .if1 .taken))
-
-payload-length-requires : tie.Need-payload-length-requires
-payload-length-requires c κs = search needs
 
 returns-2 : tie.Need-returns-2
 returns-2 c =
@@ -45,15 +33,6 @@ returns-2 c =
     let size = c .before .payload-length .ensures in
     udp-short net frame (omega (arith, at, c .before .before .if1 .left)) (omega (arith, at, size, c .if2 .taken))
 
-add-u16be : tie.Need-add-u16be
-add-u16be c = search needs
-
-u16be-requires : tie.Need-u16be-requires
-u16be-requires c κs = search needs
-
-cast-stated : tie.Need-cast-stated
-cast-stated c = search needs
-
 returns-3 : tie.Need-returns-3
 returns-3 c =
     let start = c .before .before .before .before .before .before .before .before .before in
@@ -63,39 +42,6 @@ returns-3 c =
     let stated : c .before .u16be .result ≡ u16At frame (payloadAt frame + 4) = c .before .u16be .ensures ∙ ap (λ (n : ℕ). u16At frame (n + 4)) at in
     let size = c .before .before .before .payload-length .ensures in
     udp-stated net frame (omega (arith, at, c .before .before .before .before .if1 .left)) (omega (arith, at, size, c .before .before .if2 .left)) (omega (arith, stated, c .if3 .taken))
-
-add-start : tie.Need-add-start
-add-start c = search needs
-
-smaller-requires : tie.Need-smaller-requires
-smaller-requires c κs = search needs
-
-add-u16be-2 : tie.Need-add-u16be-2
-add-u16be-2 c = search needs
-
-u16be-requires-2 : tie.Need-u16be-requires-2
-u16be-requires-2 c κs = search needs
-
-u16be-requires-3 : tie.Need-u16be-requires-3
-u16be-requires-3 c κs = search needs
-
-is-dhcp-requires : tie.Need-is-dhcp-requires
-is-dhcp-requires c κs = search needs
-
-add-decide-dhcp : tie.Need-add-decide-dhcp
-add-decide-dhcp c = search needs
-
-sub-decide-dhcp : tie.Need-sub-decide-dhcp
-sub-decide-dhcp c = search needs
-
-part-decide-dhcp-start : tie.Need-part-decide-dhcp-start
-part-decide-dhcp-start c = search needs
-
-part-decide-dhcp-end : tie.Need-part-decide-dhcp-end
-part-decide-dhcp-end c = search needs
-
-decide-dhcp-requires : tie.Need-decide-dhcp-requires
-decide-dhcp-requires c κs = search needs
 
 returns-4 : tie.Need-returns-4
 returns-4 c =
@@ -116,9 +62,6 @@ returns-4 c =
     c .decide-dhcp .ensures
     ∙ ap₂ (λ (n m : ℕ). dhcpDecision (part frame n m)) (ap (λ (n : ℕ). n + 8) at) cut
     ∙ udp-dhcp net frame inside whole enough _ size (ports ∙ c .before .before .if4 .taken)
-
-is-dns-requires : tie.Need-is-dns-requires
-is-dns-requires c κs = search needs
 
 returns-5 : tie.Need-returns-5
 returns-5 c =
@@ -163,29 +106,8 @@ returns-6 c =
 pub decide-udp-spec : {M : Type 1} → statement M
 decide-udp-spec =
     tie.close
-    (tie.spec
-    ip-dst-requires
-    ip-hlen-requires
-    add-header
-    returns
-    payload-length-requires
-    returns-2
-    add-u16be
-    u16be-requires
-    cast-stated
-    returns-3
-    add-start
-    smaller-requires
-    add-u16be-2
-    u16be-requires-2
-    u16be-requires-3
-    is-dhcp-requires
-    add-decide-dhcp
-    sub-decide-dhcp
-    part-decide-dhcp-start
-    part-decide-dhcp-end
-    decide-dhcp-requires
-    returns-4
-    is-dns-requires
-    returns-5
-    returns-6)
+    (tie.spec (λ c κs. search needs) (λ c κs. search needs) (λ c. search needs) returns (λ c κs. search needs)
+    returns-2 (λ c. search needs) (λ c κs. search needs) (λ c. search needs) returns-3 (λ c. search needs)
+    (λ c κs. search needs) (λ c. search needs) (λ c κs. search needs) (λ c κs. search needs)
+    (λ c κs. search needs) (λ c. search needs) (λ c. search needs) (λ c. search needs) (λ c. search needs)
+    (λ c κs. search needs) returns-4 (λ c κs. search needs) returns-5 returns-6)

@@ -5,38 +5,14 @@ use borrow.Author.Needs.{needs}
 use Rattle.rules.proofs.decision.same.Statement.{statement}
 use Rattle.rules.proofs.decision.same.Tie as tie
 
-array-read-if1 : tie.Need-array-read-if1
-array-read-if1 c = search needs
-
-array-read-if1-2 : tie.Need-array-read-if1-2
-array-read-if1-2 c = search needs
-
 returns : tie.Need-returns
 returns c = let a = c .before .args in first-differs (a .t1) (a .t2) (omega arith) (omega arith) (c .if1 .taken)
-
-array-read-if2 : tie.Need-array-read-if2
-array-read-if2 c = search needs
-
-array-read-if2-2 : tie.Need-array-read-if2-2
-array-read-if2-2 c = search needs
 
 returns-2 : tie.Need-returns-2
 returns-2 c = let a = c .before .before .args in second-differs (a .t1) (a .t2) (omega arith) (omega arith) (c .before .if1 .left) (c .if2 .taken)
 
-array-read-if3 : tie.Need-array-read-if3
-array-read-if3 c = search needs
-
-array-read-if3-2 : tie.Need-array-read-if3-2
-array-read-if3-2 c = search needs
-
 returns-3 : tie.Need-returns-3
 returns-3 c = let a = c .before .before .before .args in third-differs (a .t1) (a .t2) (omega arith) (omega arith) (c .before .before .if1 .left) (c .before .if2 .left) (c .if3 .taken)
-
-array-read-result : tie.Need-array-read-result
-array-read-result c = search needs
-
-array-read-result-2 : tie.Need-array-read-result-2
-array-read-result-2 c = search needs
 
 returns-4 : tie.Need-returns-4
 returns-4 c = let a = c .before .before .before .args in fourth-decides (a .t1) (a .t2) (omega arith) (omega arith) (c .before .before .if1 .left) (c .before .if2 .left) (c .if3 .left)
@@ -44,16 +20,6 @@ returns-4 c = let a = c .before .before .before .args in fourth-decides (a .t1) 
 pub same-spec : {M : Type 1} → statement M
 same-spec =
     tie.close
-    (tie.spec
-    array-read-if1
-    array-read-if1-2
-    returns
-    array-read-if2
-    array-read-if2-2
-    returns-2
-    array-read-if3
-    array-read-if3-2
-    returns-3
-    array-read-result
-    array-read-result-2
+    (tie.spec (λ c. search needs) (λ c. search needs) returns (λ c. search needs) (λ c. search needs)
+    returns-2 (λ c. search needs) (λ c. search needs) returns-3 (λ c. search needs) (λ c. search needs)
     returns-4)

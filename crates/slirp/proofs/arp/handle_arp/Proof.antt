@@ -13,26 +13,8 @@ use borrow.Author.Needs.{needs}
 use Rattle.slirp.proofs.arp.handle_arp.Statement.{statement}
 use Rattle.slirp.proofs.arp.handle_arp.Tie as tie
 
-no-room-requires : tie.Need-no-room-requires
-no-room-requires c κs = search needs
-
 returns : tie.Need-returns
 returns c = rw (c .no-room .ensures) (too-small _ _ 42 _ _ _ 42 refl (c .before .if1 .taken))
-
-mac-at-requires : tie.Need-mac-at-requires
-mac-at-requires c κs = search needs
-
-address-at-requires : tie.Need-address-at-requires
-address-at-requires c κs = search needs
-
-put-reply-requires : tie.Need-put-reply-requires
-put-reply-requires c κs = search needs
-
-answer-requires : tie.Need-answer-requires
-answer-requires c κs = search needs
-
-same-length : tie.Need-same-length
-same-length c = search needs
 
 returns-2 : tie.Need-returns-2
 returns-2 c =
@@ -51,12 +33,5 @@ returns-2 c =
 pub handle-arp-spec : {M : Type 1} → statement M
 handle-arp-spec =
     tie.close
-    (tie.spec
-    no-room-requires
-    returns
-    mac-at-requires
-    address-at-requires
-    put-reply-requires
-    answer-requires
-    same-length
-    returns-2)
+    (tie.spec (λ c κs. search needs) returns (λ c κs. search needs) (λ c κs. search needs)
+    (λ c κs. search needs) (λ c κs. search needs) (λ c. search needs) returns-2)

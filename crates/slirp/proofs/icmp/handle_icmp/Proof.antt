@@ -16,18 +16,6 @@ use borrow.Author.Needs.{needs}
 use Rattle.slirp.proofs.icmp.handle_icmp.Statement.{statement}
 use Rattle.slirp.proofs.icmp.handle_icmp.Tie as tie
 
-payload-length-requires : tie.Need-payload-length-requires
-payload-length-requires c κs = search needs
-
-add-if1 : tie.Need-add-if1
-add-if1 c = search needs
-
-add-no-room : tie.Need-add-no-room
-add-no-room c = search needs
-
-no-room-requires : tie.Need-no-room-requires
-no-room-requires c κs = search needs
-
 returns : tie.Need-returns
 returns c =
     let a = c .before .before .before .before .before .args in
@@ -35,30 +23,6 @@ returns c =
     let size = c .before .before .payload-length .ensures in
     rw (c .no-room .ensures)
     (too-small _ _ _ _ _ _ (34 + c .before .before .payload-length .result) (omega (arith, cut, size)) (omega (arith, cut, size, c .before .if1 .taken)))
-
-sub-put-echo : tie.Need-sub-put-echo
-sub-put-echo c = search needs
-
-part-put-echo-start : tie.Need-part-put-echo-start
-part-put-echo-start c = search needs
-
-part-put-echo-end : tie.Need-part-put-echo-end
-part-put-echo-end c = search needs
-
-put-echo-requires : tie.Need-put-echo-requires
-put-echo-requires c κs = search needs
-
-eth-src-requires : tie.Need-eth-src-requires
-eth-src-requires c κs = search needs
-
-ip-src-requires : tie.Need-ip-src-requires
-ip-src-requires c κs = search needs
-
-make-ip-frame-in-place-requires : tie.Need-make-ip-frame-in-place-requires
-make-ip-frame-in-place-requires c κs = search needs
-
-same-length : tie.Need-same-length
-same-length c = search needs
 
 returns-2 : tie.Need-returns-2
 returns-2 c =
@@ -78,18 +42,6 @@ returns-2 c =
 pub handle-icmp-spec : {M : Type 1} → statement M
 handle-icmp-spec =
     tie.close
-    (tie.spec
-    payload-length-requires
-    add-if1
-    add-no-room
-    no-room-requires
-    returns
-    sub-put-echo
-    part-put-echo-start
-    part-put-echo-end
-    put-echo-requires
-    eth-src-requires
-    ip-src-requires
-    make-ip-frame-in-place-requires
-    same-length
-    returns-2)
+    (tie.spec (λ c κs. search needs) (λ c. search needs) (λ c. search needs) (λ c κs. search needs) returns
+    (λ c. search needs) (λ c. search needs) (λ c. search needs) (λ c κs. search needs) (λ c κs. search needs)
+    (λ c κs. search needs) (λ c κs. search needs) (λ c. search needs) returns-2)

@@ -16,29 +16,8 @@ use borrow.Author.Needs.{needs}
 use Rattle.slirp.proofs.lease.handle_dhcp.Statement.{statement}
 use Rattle.slirp.proofs.lease.handle_dhcp.Tie as tie
 
-no-room-requires : tie.Need-no-room-requires
-no-room-requires c κs = search needs
-
 returns : tie.Need-returns
 returns c = rw (c .no-room .ensures) (too-small _ _ 342 _ _ _ 342 refl (c .before .if1 .taken))
-
-eth-src-requires : tie.Need-eth-src-requires
-eth-src-requires c κs = search needs
-
-put-datagram-requires : tie.Need-put-datagram-requires
-put-datagram-requires c κs = search needs
-
-noted-requires : tie.Need-noted-requires
-noted-requires c κs = search needs
-
-broadcast-requires : tie.Need-broadcast-requires
-broadcast-requires c κs = search needs
-
-make-ip-frame-in-place-requires : tie.Need-make-ip-frame-in-place-requires
-make-ip-frame-in-place-requires c κs = search needs
-
-same-length : tie.Need-same-length
-same-length c = search needs
 
 returns-2 : tie.Need-returns-2
 unfolding dhcpFrame
@@ -63,13 +42,5 @@ returns-2 c =
 pub handle-dhcp-spec : {M : Type 1} → statement M
 handle-dhcp-spec =
     tie.close
-    (tie.spec
-    no-room-requires
-    returns
-    eth-src-requires
-    put-datagram-requires
-    noted-requires
-    broadcast-requires
-    make-ip-frame-in-place-requires
-    same-length
-    returns-2)
+    (tie.spec (λ c κs. search needs) returns (λ c κs. search needs) (λ c κs. search needs)
+    (λ c κs. search needs) (λ c κs. search needs) (λ c κs. search needs) (λ c. search needs) returns-2)

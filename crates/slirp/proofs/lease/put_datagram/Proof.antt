@@ -8,30 +8,6 @@ use borrow.Author.Needs.{needs}
 use Rattle.slirp.proofs.lease.put_datagram.Statement.{statement}
 use Rattle.slirp.proofs.lease.put_datagram.Tie as tie
 
-slice-aggregate-build-reply : tie.Need-slice-aggregate-build-reply
-slice-aggregate-build-reply c = search needs
-
-build-reply-requires : tie.Need-build-reply-requires
-build-reply-requires c κs = search needs
-
-slice-aggregate-make-udp-payload : tie.Need-slice-aggregate-make-udp-payload
-slice-aggregate-make-udp-payload c = search needs
-
-sub-make-udp-payload : tie.Need-sub-make-udp-payload
-sub-make-udp-payload c = search needs
-
-part-make-udp-payload-start : tie.Need-part-make-udp-payload-start
-part-make-udp-payload-start c = search needs
-
-part-make-udp-payload-end : tie.Need-part-make-udp-payload-end
-part-make-udp-payload-end c = search needs
-
-make-udp-payload-requires : tie.Need-make-udp-payload-requires
-make-udp-payload-requires c κs = search needs
-
-same-length : tie.Need-same-length
-same-length c = search needs
-
 returns : tie.Need-returns
 returns c =
     let made = c .before .before in
@@ -50,13 +26,5 @@ returns c =
 pub put-datagram-spec : {M : Type 1} → statement M
 put-datagram-spec =
     tie.close
-    (tie.spec
-    slice-aggregate-build-reply
-    build-reply-requires
-    slice-aggregate-make-udp-payload
-    sub-make-udp-payload
-    part-make-udp-payload-start
-    part-make-udp-payload-end
-    make-udp-payload-requires
-    same-length
-    returns)
+    (tie.spec (λ c. search needs) (λ c κs. search needs) (λ c. search needs) (λ c. search needs)
+    (λ c. search needs) (λ c. search needs) (λ c κs. search needs) (λ c. search needs) returns)

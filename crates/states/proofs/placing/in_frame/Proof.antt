@@ -21,18 +21,6 @@ stands : (frame : List ℕ) {header total length : ℕ} → header ≡ headerLen
 unfolding payloadLength
 stands frame h t l = ap₂ (λ (x y : ℕ). (14 + x) ∷ y ∷ []) h (l ∙ ap₂ (λ (x y : ℕ). x - y) (t ∙ total-in-frame frame) h)
 
-ip-hlen-requires : tie.Need-ip-hlen-requires
-ip-hlen-requires c κs = search needs
-
-u16be-requires : tie.Need-u16be-requires
-u16be-requires c κs = search needs
-
-cast-total : tie.Need-cast-total
-cast-total c = search needs
-
-add-start : tie.Need-add-start
-add-start c = search needs
-
 returns : tie.Need-returns
 returns c = stands (c .before .before .before .before .args .frame .now) (c .before .before .ip-hlen .ensures) (c .before .u16be .ensures) (omega (arith, c .if1 .taken))
 
@@ -41,4 +29,6 @@ returns-2 c = stands (c .before .before .before .before .args .frame .now) (c .b
 
 pub in-frame-spec : {M : Type 1} → statement M
 in-frame-spec =
-    tie.close (tie.spec ip-hlen-requires u16be-requires cast-total add-start returns returns-2)
+    tie.close
+    (tie.spec (λ c κs. search needs) (λ c κs. search needs) (λ c. search needs) (λ c. search needs) returns
+    returns-2)

@@ -5,36 +5,6 @@ use borrow.Author.Needs.{needs}
 use Rattle.states.proofs.placing.place.Statement.{statement}
 use Rattle.states.proofs.placing.place.Tie as tie
 
-enum-told : tie.Need-enum-told
-enum-told c = search needs
-
-in-frame-requires : tie.Need-in-frame-requires
-in-frame-requires c κs = search needs
-
-enum-told-2 : tie.Need-enum-told-2
-enum-told-2 c = search needs
-
-in-store-requires : tie.Need-in-store-requires
-in-store-requires c κs = search needs
-
-enum-told-3 : tie.Need-enum-told-3
-enum-told-3 c = search needs
-
-enum-told-4 : tie.Need-enum-told-4
-enum-told-4 c = search needs
-
-enum-told-5 : tie.Need-enum-told-5
-enum-told-5 c = search needs
-
-enum-told-6 : tie.Need-enum-told-6
-enum-told-6 c = search needs
-
-enum-told-7 : tie.Need-enum-told-7
-enum-told-7 c = search needs
-
-enum-told-8 : tie.Need-enum-told-8
-enum-told-8 c = search needs
-
 returns : tie.Need-returns
 unfolding placeOf
 returns c = rw (c .before .enum-told .given .1) (c .in-frame .ensures)
@@ -70,22 +40,6 @@ returns-8 c = rw (c .enum-told8 .given .1) refl
 pub place-spec : {M : Type 1} → statement M
 place-spec =
     tie.close
-    (tie.spec
-    enum-told
-    in-frame-requires
-    enum-told-2
-    in-store-requires
-    enum-told-3
-    enum-told-4
-    enum-told-5
-    enum-told-6
-    enum-told-7
-    enum-told-8
-    returns
-    returns-2
-    returns-3
-    returns-4
-    returns-5
-    returns-6
-    returns-7
-    returns-8)
+    (tie.spec (λ c. search needs) (λ c κs. search needs) (λ c. search needs) (λ c κs. search needs)
+    (λ c. search needs) (λ c. search needs) (λ c. search needs) (λ c. search needs) (λ c. search needs)
+    (λ c. search needs) returns returns-2 returns-3 returns-4 returns-5 returns-6 returns-7 returns-8)

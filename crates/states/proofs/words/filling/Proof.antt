@@ -4,18 +4,6 @@ use borrow.Author.Needs.{needs}
 use Rattle.states.proofs.words.filling.Statement.{statement}
 use Rattle.states.proofs.words.filling.Tie as tie
 
-enum-told : tie.Need-enum-told
-enum-told c = search needs
-
-lay-requires : tie.Need-lay-requires
-lay-requires c κs = search needs
-
-enum-known-end : tie.Need-enum-known-end
-enum-known-end c = search needs
-
-lay-requires-2 : tie.Need-lay-requires-2
-lay-requires-2 c κs = search needs
-
 returns : tie.Need-returns
 unfolding fillingWords
 returns c = rw (c .before .enum-told .given .1) (c .lay .ensures .0, c .lay .ensures .1, tt)
@@ -26,4 +14,6 @@ returns-2 c = rw (c .before .before .end .given .1) (c .lay2 .ensures)
 
 pub filling-spec : {M : Type 1} → statement M
 filling-spec =
-    tie.close (tie.spec enum-told lay-requires enum-known-end lay-requires-2 returns returns-2)
+    tie.close
+    (tie.spec (λ c. search needs) (λ c κs. search needs) (λ c. search needs) (λ c κs. search needs) returns
+    returns-2)

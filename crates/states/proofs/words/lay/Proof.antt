@@ -6,15 +6,9 @@ use borrow.Author.Needs.{needs}
 use Rattle.states.proofs.words.lay.Statement.{statement}
 use Rattle.states.proofs.words.lay.Tie as tie
 
-cast-t4 : tie.Need-cast-t4
-cast-t4 c = search needs
-
-cast-t5 : tie.Need-cast-t5
-cast-t5 c = search needs
-
 returns : tie.Need-returns
 unfolding laid
 returns c = (refl, (omega arith, omega arith), omega arith)
 
 pub lay-spec : {M : Type 1} → statement M
-lay-spec = tie.close (tie.spec cast-t4 cast-t5 returns)
+lay-spec = tie.close (tie.spec (λ c. search needs) (λ c. search needs) returns)

@@ -6,33 +6,6 @@ use borrow.Author.Needs.{needs}
 use Rattle.states.proofs.words.state_of.Statement.{statement}
 use Rattle.states.proofs.words.state_of.Tie as tie
 
-array-read-phase : tie.Need-array-read-phase
-array-read-phase c = search needs
-
-array-read-end : tie.Need-array-read-end
-array-read-end c = search needs
-
-array-read-end-2 : tie.Need-array-read-end-2
-array-read-end-2 c = search needs
-
-array-read-t16 : tie.Need-array-read-t16
-array-read-t16 c = search needs
-
-cast-t18 : tie.Need-cast-t18
-cast-t18 c = search needs
-
-array-read-t21 : tie.Need-array-read-t21
-array-read-t21 c = search needs
-
-cast-t23 : tie.Need-cast-t23
-cast-t23 c = search needs
-
-array-read-end-3 : tie.Need-array-read-end-3
-array-read-end-3 c = search needs
-
-cast-end : tie.Need-cast-end
-cast-end c = search needs
-
 returns : tie.Need-returns
 unfolding stateOf datagramIn endIn
 returns c =
@@ -60,17 +33,6 @@ returns-4 c =
 pub state-of-spec : {M : Type 1} → statement M
 state-of-spec =
     tie.close
-    (tie.spec
-    array-read-phase
-    array-read-end
-    array-read-end-2
-    array-read-t16
-    cast-t18
-    array-read-t21
-    cast-t23
-    array-read-end-3
-    cast-end
-    returns
-    returns-2
-    returns-3
-    returns-4)
+    (tie.spec (λ c. search needs) (λ c. search needs) (λ c. search needs) (λ c. search needs)
+    (λ c. search needs) (λ c. search needs) (λ c. search needs) (λ c. search needs) (λ c. search needs)
+    returns returns-2 returns-3 returns-4)

@@ -13,21 +13,6 @@ use Rattle.states.proofs.words.words_of.Tie as tie
 both : (words : List ℕ) (state : State) → words ≡ wordsOf state → Fit state → (words ≡ wordsOf state) × (stateOf words ≡ state)
 both words state e fit = (e, ap stateOf e ∙ state-back state fit)
 
-enum-told : tie.Need-enum-told
-enum-told c = search needs
-
-enum-known-state : tie.Need-enum-known-state
-enum-known-state c = search needs
-
-filling-requires : tie.Need-filling-requires
-filling-requires c κs = search needs
-
-enum-known-state-2 : tie.Need-enum-known-state-2
-enum-known-state-2 c = search needs
-
-lay-requires : tie.Need-lay-requires
-lay-requires c κs = search needs
-
 returns : tie.Need-returns
 unfolding wordsOf
 returns c = rw (c .enum-told .given .1) (both _ Empty refl tt)
@@ -43,12 +28,5 @@ returns-3 c = rw (c .before .before .state2 .given .1) (both _ (Complete _ _) (c
 pub words-of-spec : {M : Type 1} → statement M
 words-of-spec =
     tie.close
-    (tie.spec
-    enum-told
-    enum-known-state
-    filling-requires
-    enum-known-state-2
-    lay-requires
-    returns
-    returns-2
-    returns-3)
+    (tie.spec (λ c. search needs) (λ c. search needs) (λ c κs. search needs) (λ c. search needs)
+    (λ c κs. search needs) returns returns-2 returns-3)

@@ -7,30 +7,6 @@ use Rattle.vectors.proofs.lines.decode.Tie as tie
 returns : tie.Need-returns
 returns c = past-end _ _ _ _ (c .if1 .taken)
 
-find-requires : tie.Need-find-requires
-find-requires c κs = search needs
-
-find-requires-2 : tie.Need-find-requires-2
-find-requires-2 c κs = search needs
-
-sub-read-bytes : tie.Need-sub-read-bytes
-sub-read-bytes c = search needs
-
-part-read-bytes-start : tie.Need-part-read-bytes-start
-part-read-bytes-start c = search needs
-
-part-read-bytes-end : tie.Need-part-read-bytes-end
-part-read-bytes-end c = search needs
-
-read-bytes-requires : tie.Need-read-bytes-requires
-read-bytes-requires c κs = search needs
-
-behind-requires : tie.Need-behind-requires
-behind-requires c κs = search needs
-
-same-length : tie.Need-same-length
-same-length c = search needs
-
 returns-2 : tie.Need-returns-2
 returns-2 c =
     let b = c .before .before .before in
@@ -40,14 +16,5 @@ returns-2 c =
 pub decode-spec : {M : Type 1} → statement M
 decode-spec =
     tie.close
-    (tie.spec
-    returns
-    find-requires
-    find-requires-2
-    sub-read-bytes
-    part-read-bytes-start
-    part-read-bytes-end
-    read-bytes-requires
-    behind-requires
-    same-length
-    returns-2)
+    (tie.spec returns (λ c κs. search needs) (λ c κs. search needs) (λ c. search needs) (λ c. search needs)
+    (λ c. search needs) (λ c κs. search needs) (λ c κs. search needs) (λ c. search needs) returns-2)

@@ -6,9 +6,6 @@ use Rattle.vectors.specs.Lines.{digit}
 use Rattle.vectors.proofs.lines.digit_of.Statement.{statement}
 use Rattle.vectors.proofs.lines.digit_of.Tie as tie
 
-add-result : tie.Need-add-result
-add-result c = search needs
-
 returns : tie.Need-returns
 unfolding digit
 returns c =
@@ -40,4 +37,4 @@ returns-5 c =
     (simp (le-leb 48 s (omega arith), lt-leb s 57 (omega arith), le-leb 97 s (omega arith), lt-leb s 102 (omega arith)), omega arith)
 
 pub digit-of-spec : {M : Type 1} → statement M
-digit-of-spec = tie.close (tie.spec add-result returns returns-2 returns-3 returns-4 returns-5)
+digit-of-spec = tie.close (tie.spec (λ c. search needs) returns returns-2 returns-3 returns-4 returns-5)

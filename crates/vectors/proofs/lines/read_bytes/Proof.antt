@@ -17,26 +17,8 @@ abbrev μ-loop : tie.MeasureT-loop
 loop-holds : tie.Need-loop-holds Inv-loop μ-loop
 loop-holds c = starts _ _
 
-shared-slice-read-sign : tie.Need-shared-slice-read-sign Inv-loop μ-loop
-shared-slice-read-sign c = search needs
-
-add-i : tie.Need-add-i Inv-loop μ-loop
-add-i c = search needs
-
-loop-less : tie.Need-loop-less Inv-loop μ-loop
-loop-less c = search needs
-
 loop-again : tie.Need-loop-again Inv-loop μ-loop
 loop-again c = let b = c .before .before in past-space (b .before .loop .inv) (b .loop-test .taken) (c .if1 .taken)
-
-digit-of-requires : tie.Need-digit-of-requires Inv-loop μ-loop
-digit-of-requires c κs = search needs
-
-no-bytes-requires : tie.Need-no-bytes-requires Inv-loop μ-loop
-no-bytes-requires c κs = search needs
-
-same-length : tie.Need-same-length Inv-loop μ-loop
-same-length c = search needs
 
 returns : tie.Need-returns Inv-loop μ-loop
 returns c =
@@ -44,20 +26,11 @@ returns c =
     let l = d .before .before .before in
     refused _ _ _ _ (c .no-bytes .ensures) (wrong (l .before .loop .inv) (l .loop-test .taken) (d .before .if1 .left) _ (d .digit-of .ensures .0) (c .before .if2 .taken))
 
-no-bytes-requires-2 : tie.Need-no-bytes-requires-2 Inv-loop μ-loop
-no-bytes-requires-2 c κs = search needs
-
-same-length-2 : tie.Need-same-length-2 Inv-loop μ-loop
-same-length-2 c = search needs
-
 returns-2 : tie.Need-returns-2 Inv-loop μ-loop
 returns-2 c =
     let d = c .before .before .before in
     let l = d .before .before .before in
     refused _ _ _ _ (c .no-bytes2 .ensures) (full (l .before .loop .inv) (l .loop-test .taken) (d .before .if1 .left) _ (d .digit-of .ensures .0) (omega arith))
-
-loop-less-2 : tie.Need-loop-less-2 Inv-loop μ-loop
-loop-less-2 c = search needs
 
 loop-again-2 : tie.Need-loop-again-2 Inv-loop μ-loop
 loop-again-2 c =
@@ -65,40 +38,16 @@ loop-again-2 c =
     let l = d .before .before .before in
     first (l .before .loop .inv) (l .loop-test .taken) (d .before .if1 .left) _ (d .digit-of .ensures .0) (c .before .before .if2 .left) (d .digit-of .ensures .1) (c .if4 .taken)
 
-mul-line : tie.Need-mul-line Inv-loop μ-loop
-mul-line c = search needs
-
-add-line : tie.Need-add-line Inv-loop μ-loop
-add-line c = search needs
-
-slice-write-line : tie.Need-slice-write-line Inv-loop μ-loop
-slice-write-line c = search needs
-
-add-len : tie.Need-add-len Inv-loop μ-loop
-add-len c = search needs
-
-loop-less-3 : tie.Need-loop-less-3 Inv-loop μ-loop
-loop-less-3 c = search needs
-
 loop-again-3 : tie.Need-loop-again-3 Inv-loop μ-loop
 loop-again-3 c =
     let d = c .before .before .before in
     let l = d .before .before .before in
     second (l .before .loop .inv) (l .loop-test .taken) (d .before .if1 .left) _ (d .digit-of .ensures .0) (search needs) (search needs) (search needs)
 
-same-length-3 : tie.Need-same-length-3 Inv-loop μ-loop
-same-length-3 c = search needs
-
 returns-3 : tie.Need-returns-3 Inv-loop μ-loop
 returns-3 c =
     let l = c .before .before .loop in
     taken _ _ _ _ (l .len) (l .inv .fits) (l .inv .same-room) refl (whole (l .inv) (c .before .loop-test .left) (c .if5 .taken))
-
-no-bytes-requires-3 : tie.Need-no-bytes-requires-3 Inv-loop μ-loop
-no-bytes-requires-3 c κs = search needs
-
-same-length-4 : tie.Need-same-length-4 Inv-loop μ-loop
-same-length-4 c = search needs
 
 returns-4 : tie.Need-returns-4 Inv-loop μ-loop
 returns-4 c =
@@ -108,31 +57,8 @@ returns-4 c =
 pub read-bytes-spec : {M : Type 1} → statement M
 read-bytes-spec =
     tie.close
-    (tie.spec
-    Inv-loop
-    μ-loop
-    loop-holds
-    shared-slice-read-sign
-    add-i
-    loop-less
-    loop-again
-    digit-of-requires
-    no-bytes-requires
-    same-length
-    returns
-    no-bytes-requires-2
-    same-length-2
-    returns-2
-    loop-less-2
-    loop-again-2
-    mul-line
-    add-line
-    slice-write-line
-    add-len
-    loop-less-3
-    loop-again-3
-    same-length-3
-    returns-3
-    no-bytes-requires-3
-    same-length-4
-    returns-4)
+    (tie.spec Inv-loop μ-loop loop-holds (λ c. search needs) (λ c. search needs) (λ c. search needs)
+    loop-again (λ c κs. search needs) (λ c κs. search needs) (λ c. search needs) returns
+    (λ c κs. search needs) (λ c. search needs) returns-2 (λ c. search needs) loop-again-2 (λ c. search needs)
+    (λ c. search needs) (λ c. search needs) (λ c. search needs) (λ c. search needs) loop-again-3
+    (λ c. search needs) returns-3 (λ c κs. search needs) (λ c. search needs) returns-4)

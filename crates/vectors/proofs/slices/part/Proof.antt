@@ -9,38 +9,17 @@ use borrow.Author.Needs.{needs}
 use Rattle.vectors.proofs.slices.part.Statement.{statement}
 use Rattle.vectors.proofs.slices.part.Tie as tie
 
-slice-aggregate-result : tie.Need-slice-aggregate-result
-slice-aggregate-result c = search needs
-
 returns : tie.Need-returns
 unfolding wholePart
 returns c =
     let a = c .before .before .args in
     simp (lt-leb (a .at + a .len) (length (a .s .now)) (omega arith))
 
-sub-if2 : tie.Need-sub-if2
-sub-if2 c = search needs
-
-slice-aggregate-result-2 : tie.Need-slice-aggregate-result-2
-slice-aggregate-result-2 c = search needs
-
 returns-2 : tie.Need-returns-2
 unfolding wholePart
 returns-2 c =
     let a = c .before .before .before .args in
     simp (lt-leb (a .at + a .len) (length (a .s .now)) (omega arith))
-
-add-result : tie.Need-add-result
-add-result c = search needs
-
-sub-result : tie.Need-sub-result
-sub-result c = search needs
-
-part-result-start : tie.Need-part-result-start
-part-result-start c = search needs
-
-part-result-end : tie.Need-part-result-end
-part-result-end c = search needs
 
 returns-3 : tie.Need-returns-3
 unfolding wholePart
@@ -51,14 +30,5 @@ returns-3 c =
 pub part-spec : {M : Type 1} → statement M
 part-spec =
     tie.close
-    (tie.spec
-    slice-aggregate-result
-    returns
-    sub-if2
-    slice-aggregate-result-2
-    returns-2
-    add-result
-    sub-result
-    part-result-start
-    part-result-end
-    returns-3)
+    (tie.spec (λ c. search needs) returns (λ c. search needs) (λ c. search needs) returns-2
+    (λ c. search needs) (λ c. search needs) (λ c. search needs) (λ c. search needs) returns-3)

@@ -8,22 +8,10 @@ use borrow.Author.Needs.{needs}
 use Rattle.vectors.proofs.slices.rest.Statement.{statement}
 use Rattle.vectors.proofs.slices.rest.Tie as tie
 
-slice-aggregate-result : tie.Need-slice-aggregate-result
-slice-aggregate-result c = search needs
-
 returns : tie.Need-returns
 returns c =
     let a = c .before .before .args in
     sym (drop-of-length-le (a .s .now) {i = a .at} (omega arith))
-
-sub-result : tie.Need-sub-result
-sub-result c = search needs
-
-part-result-start : tie.Need-part-result-start
-part-result-start c = search needs
-
-part-result-end : tie.Need-part-result-end
-part-result-end c = search needs
 
 returns-2 : tie.Need-returns-2
 returns-2 c =
@@ -33,10 +21,5 @@ returns-2 c =
 pub rest-spec : {M : Type 1} → statement M
 rest-spec =
     tie.close
-    (tie.spec
-    slice-aggregate-result
-    returns
-    sub-result
-    part-result-start
-    part-result-end
+    (tie.spec (λ c. search needs) returns (λ c. search needs) (λ c. search needs) (λ c. search needs)
     returns-2)

@@ -6,9 +6,6 @@ use borrow.Author.Needs.{needs}
 use Rattle.frames.proofs.answer.Guest.answered.Statement.{statement}
 use Rattle.frames.proofs.answer.Guest.answered.Tie as tie
 
-wrapping-add-u16-requires : tie.Need-wrapping-add-u16-requires
-wrapping-add-u16-requires c κs = search needs
-
 returns : tie.Need-returns
 returns c =
     let a = c .before .before .args in
@@ -16,4 +13,4 @@ returns c =
     ap (λ (k : ℕ). let r : Answer = record { verdict = a .verdict; guest = record { mac = g .mac; id = k; xid = g .xid } } in r) (c .wrapping-add-u16 .ensures)
 
 pub answered-spec : {M : Type 1} → statement M
-answered-spec = tie.close (tie.spec wrapping-add-u16-requires returns)
+answered-spec = tie.close (tie.spec (λ c κs. search needs) returns)

@@ -7,9 +7,6 @@ use borrow.Author.Needs.{needs}
 use Rattle.frames.proofs.answer.Guest.refused.Statement.{statement}
 use Rattle.frames.proofs.answer.Guest.refused.Tie as tie
 
-answered-requires : tie.Need-answered-requires
-answered-requires c κs = search needs
-
 returns : tie.Need-returns
 returns c =
     let a = c .before .args in
@@ -18,4 +15,4 @@ returns c =
     c .answered .ensures ∙ ap (λ (k : ℕ). let r : Answer = record { verdict = a .verdict; guest = record { mac = g .mac; id = k; xid = g .xid } } in r) kept
 
 pub refused-spec : {M : Type 1} → statement M
-refused-spec = tie.close (tie.spec answered-requires returns)
+refused-spec = tie.close (tie.spec (λ c κs. search needs) returns)

@@ -3,11 +3,8 @@ use borrow.Author.Needs.{needs}
 use Rattle.frames.proofs.answer.Guest.replied.Statement.{statement}
 use Rattle.frames.proofs.answer.Guest.replied.Tie as tie
 
-answered-requires : tie.Need-answered-requires
-answered-requires c κs = search needs
-
 returns : tie.Need-returns
 returns c = c .answered .ensures
 
 pub replied-spec : {M : Type 1} → statement M
-replied-spec = tie.close (tie.spec answered-requires returns)
+replied-spec = tie.close (tie.spec (λ c κs. search needs) returns)
