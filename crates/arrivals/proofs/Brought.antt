@@ -2,7 +2,7 @@
 -- means what it says.
 use Prim.Native.Nat.{ℕ, _+_, _-_, _*_, _/_, _≤_, _<_}
 use mathlib.Core.Path.{_≡_, refl, ap, sym, subst, _∙_}
-use mathlib.Core.Bool.{Bool, true, false, and-eq-true-iff, _||_}
+use mathlib.Core.Bool.{Bool, true, false, and-eq-true-iff, _||_, cond}
 use mathlib.Core.Logic.{inl, inr}
 use mathlib.Core.List.{List, [], _∷_}
 use native.Mathlib.Omega.{arith}
@@ -11,11 +11,10 @@ use lib.Dec.{eqb, ltb}
 use lib.ListN.{length, getD, drop, length-drop}
 use lib.Seq.{getD-take, getD-drop, length-take-le}
 use Rattle.blocks.specs.Bitmap.{bit, count, having}
-use Rattle.fields.specs.Bytes.{part}
-use Rattle.fields.specs.Rfc894.{body}
-use Rattle.frames.specs.Pick.{pick}
-use Rattle.frames.specs.Buffer.{put}
-use Rattle.frames.proofs.Lists.{length-put}
+use Rattle.base.specs.Bytes.{part}
+use Rattle.wire.specs.Rfc894.{body}
+use Rattle.base.specs.Buffer.{put}
+use Rattle.base.proofs.Lists.{length-put}
 use Rattle.fragments.specs.Promises.{Effect, Takes}
 use Rattle.fragments.specs.Rfc791.{packetOf}
 use Rattle.fragments.specs.Rules.{Outcome, blocksOf, firstBlock, endOf, stopBlock, sameDatagram, isHeld, knownEnd, wrongEnd, endWith, ruling, settled, outcomeOf}
@@ -70,13 +69,13 @@ before (Complete held n) d bytes words came free m = let z : _≡_ {A = ℕ} 0 1
 
 -- a stored fragment brings its own places up to the end, and what was known stays
 covers : (frame : List ℕ) → Fit frame → (k : End) (place : ℕ) (t : Bool) → piece frame .last ≡ t
-    → BeforeEnd (pick t (At (endOf (piece frame))) k) place → firstBlock (piece frame) ≤ place / 8 → place / 8 < stopBlock (piece frame) → Covers place frame
+    → BeforeEnd (cond t (At (endOf (piece frame))) k) place → firstBlock (piece frame) ≤ place / 8 → place / 8 < stopBlock (piece frame) → Covers place frame
 unfolding blocksOf
 covers frame fit k place true e h l u = (omega (arith, at-block (body frame)), h)
 covers frame fit k place false e h l u = (omega (arith, at-block (body frame)), omega (arith, ends-at-block frame (piece frame) fit e))
 
 -- a place before the new end is before the old one
-earlier : (f : Fragment) (there : ℕ → ℕ) (k : End) (place : ℕ) (t : Bool) → f .last ≡ t → wrongEnd f k there ≡ false → BeforeEnd (pick t (At (endOf f)) k) place → BeforeEnd k place
+earlier : (f : Fragment) (there : ℕ → ℕ) (k : End) (place : ℕ) (t : Bool) → f .last ≡ t → wrongEnd f k there ≡ false → BeforeEnd (cond t (At (endOf f)) k) place → BeforeEnd k place
 unfolding wrongEnd
 earlier f there Unknown place t e right h = tt
 earlier f there (At n) place true e right h = let w : (true || ltb n (endOf f)) ≡ false = rw e at right in let z : _≡_ {A = ℕ} 0 1 = cc in absurd (omega arith)
@@ -131,7 +130,7 @@ settles d (At n) there bytes words came bits knows = go (eqb (count there 0 (blo
         omega (arith, bits b, bit-at-most-1 words b)
 
     go : (t : Bool) → eqb (count there 0 (blocksOf n)) (blocksOf n) ≡ t
-        → Means ((pick {A = Outcome} t (record { said = Answer.complete; state = Complete d n }) (record { said = Answer.stored; state = Filling d (At n) })) .state) bytes words came
+        → Means ((cond {A = Outcome} t (record { said = Answer.complete; state = Complete d n }) (record { said = Answer.stored; state = Filling d (At n) })) .state) bytes words came
     go true e = (knows, all (eqb-true _ _ e))
     go false e = knows
 

@@ -1,7 +1,7 @@
 -- One call of a train: the next fragment is stored. No block that is there belongs to a fragment to come, and the two together cover the datagram.
 use Prim.Native.Nat.{ℕ, _+_, _-_, _*_, _/_, _≤_, _<_}
 use mathlib.Core.Path.{_≡_, refl, ap, sym, subst, _∙_}
-use mathlib.Core.Bool.{Bool, true, false, true≢false}
+use mathlib.Core.Bool.{Bool, true, false, true≢false, cond}
 use mathlib.Core.Logic.{_⊎_, inl, inr}
 use mathlib.Core.List.{List, [], _∷_}
 use native.Mathlib.Omega.{arith}
@@ -9,10 +9,9 @@ use borrow.Author.Tests.{le-ltb, eq-eqb, ne-eqb}
 use lib.ListN.{length, getD, drop, length-drop}
 use lib.Seq.{getD-take, getD-drop, length-take-le}
 use Rattle.blocks.specs.Bitmap.{bit, count, having}
-use Rattle.fields.specs.Bytes.{part}
-use Rattle.fields.specs.Rfc894.{body}
-use Rattle.frames.specs.Pick.{pick}
-use Rattle.frames.proofs.Lists.{length-put}
+use Rattle.base.specs.Bytes.{part}
+use Rattle.wire.specs.Rfc894.{body}
+use Rattle.base.proofs.Lists.{length-put}
 use Rattle.fragments.specs.Answer.{stored, complete, paper}
 use Rattle.fragments.specs.Promises.{Effect, Takes}
 use Rattle.fragments.specs.Rules.{Outcome, ofSize, blocksOf, firstBlock, endOf, stopBlock, sameDatagram, isHeld, knownEnd, overlaps, wrongEnd, endWith, partRuling, packetRuling, ruling, settled, outcomeOf}
@@ -78,7 +77,7 @@ module _ (end : ℕ) (frame : List ℕ) (todo : List (List ℕ)) where
   unfolding endWith
   next-end k h = go (piece frame .last) refl k h
     where
-      go : (t : Bool) → piece frame .last ≡ t → (k : End) → EndSoFar end k (frame ∷ todo) → EndSoFar end (pick t (At (endOf (piece frame))) k) todo
+      go : (t : Bool) → piece frame .last ≡ t → (k : End) → EndSoFar end k (frame ∷ todo) → EndSoFar end (cond t (At (endOf (piece frame))) k) todo
       go true e Unknown h = is-the-last (h .0) (h .1) e
       go true e (At end′) h = absurd (omega (arith, rw e at (h .1)))
       go false e Unknown h = is-not (h .0) (h .1) e

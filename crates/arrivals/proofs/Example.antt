@@ -8,7 +8,8 @@ use native.Mathlib.Omega.{arith}
 use borrow.Author.Tests.{ltb-true, ltb-false}
 use lib.Dec.{ltb}
 use Rattle.sums.specs.Rfc1071.{words, sum, total, fold}
-use Rattle.fragments.specs.Rfc791.{soundHeader, sound, moreFragments, fragmentOffset, isWhole, payloadLength, goodLength, datagramOf, fragmentOf, packetOf}
+use Rattle.fragments.specs.Rfc791.{soundHeader, sound, isWhole, payloadLength, goodLength, datagramOf, fragmentOf, packetOf}
+use Rattle.wire.specs.Rfc791.{moreFragments, fragmentOffset}
 use Rattle.fragments.specs.declared.answer.Datagram.{Datagram}
 use Rattle.arrivals.specs.Trains.{Some, Covers, Train}
 

@@ -1,21 +1,20 @@
 -- Isolation: a guest's store is served as if it were alone. A call leaves all stores but its own, and its answer hangs on the store and on what is asked.
 use Prim.Native.Nat.{ℕ}
 use mathlib.Core.Path.{_≡_, refl, ap, ap₂, sym, subst}
-use mathlib.Core.Bool.{Bool, true, false}
+use mathlib.Core.Bool.{Bool, true, false, cond}
 use mathlib.Core.List.{List, [], _∷_}
 use native.Mathlib.Omega.{arith}
 use borrow.Author.Tests.{eqb-true}
 use lib.Dec.{eqb}
 use lib.ListN.{length, drop}
-use Rattle.frames.specs.Pick.{pick}
 use Rattle.arrivals.specs.Calls.{Store, Asked, Call, after, Keeps, Runs, asks, Host, storing, Serves, callsOf, Got, gets}
 use Rattle.arrivals.proofs.OneAnswer.{one-answer}
 
 -- one call: it is the guest's own and moves its store on, or another's and leaves it
 step : (host : Host) (call : Call) (rest : List Call) (who : ℕ) (t : Bool) → eqb (call .who) who ≡ t
     → Keeps (call .asked) (host (call .who)) (after call) (call .taken)
-    → Runs (pick t (after call) (host who)) (callsOf who rest)
-    → Runs (host who) (pick t (call ∷ callsOf who rest) (callsOf who rest))
+    → Runs (cond t (after call) (host who)) (callsOf who rest)
+    → Runs (host who) (cond t (call ∷ callsOf who rest) (callsOf who rest))
 step host call rest who true e k then = (subst (λ (w : ℕ). Keeps (call .asked) (host w) (after call) (call .taken)) (eqb-true (call .who) who e) k, then)
 step host call rest who false e k then = then
 

@@ -1,13 +1,12 @@
 -- A call that stores no fragment leaves the store as it was: a frame that passes by, and every refusal.
 use Prim.Native.Nat.{ℕ}
 use mathlib.Core.Path.{_≡_, refl, sym, subst, _∙_}
-use mathlib.Core.Bool.{Bool, true, false}
+use mathlib.Core.Bool.{Bool, true, false, cond}
 use mathlib.Core.List.{List}
 use native.Mathlib.Omega.{arith}
 use lib.Dec.{eqb}
 use lib.ListN.{length}
 use Rattle.blocks.specs.Bitmap.{bit, count}
-use Rattle.frames.specs.Pick.{pick}
 use Rattle.fragments.specs.Answer.{stored, complete, refused, paper}
 use Rattle.fragments.specs.Promises.{Untouched, Effect, Takes}
 use Rattle.fragments.specs.Rules.{Outcome, blocksOf, settled, ruling, outcomeOf}
@@ -55,7 +54,7 @@ module _ (store : Store) (frame : List ℕ) (call : Call) (asked : call .asked �
   unfolding outcomeOf settled
   refusal-leaves n said = leaves-alone (λ f end e. go f end (sym (subst (λ (r : Ruling). paper (call .taken .answer) ≡ outcomeOf (store .state) (bit (store .words)) r .said) e (takes store frame call asked k .answers)) ∙ said))
     where
-      told : (t : Bool) (d : Datagram) (end : ℕ) → (pick {A = Outcome} t (record { said = complete; state = Complete d end }) (record { said = stored; state = Filling d (At end) })) .said ≡ refused n → ⊥
+      told : (t : Bool) (d : Datagram) (end : ℕ) → (cond {A = Outcome} t (record { said = complete; state = Complete d end }) (record { said = stored; state = Filling d (At end) })) .said ≡ refused n → ⊥
       told true d end e = let z : _≡_ {A = ℕ} 0 1 = cc in omega arith
       told false d end e = let z : _≡_ {A = ℕ} 0 1 = cc in omega arith
 

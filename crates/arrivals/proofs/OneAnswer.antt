@@ -9,7 +9,7 @@ use lib.ListN.{length, getD}
 use lib.Pow.{shr-shr}
 use lib.Seq.{ext-getD}
 use Rattle.blocks.specs.Bitmap.{bit}
-use Rattle.frames.specs.Pick.{pick}
+use mathlib.Core.Bool.{cond}
 use Rattle.fragments.specs.Answer.{Said, passed, stored, complete, released, refused, paper}
 use Rattle.fragments.specs.Promises.{Effect}
 use Rattle.fragments.specs.Rules.{ruling}
@@ -26,7 +26,7 @@ answerOf passed = Passed
 answerOf stored = Stored
 answerOf complete = Complete
 answerOf released = Released
-answerOf (refused n) = pick (eqb n 10) Unfit (pick (eqb n 11) Held (pick (eqb n 12) Overlap WrongEnd))
+answerOf (refused n) = cond (eqb n 10) Unfit (cond (eqb n 11) Held (cond (eqb n 12) Overlap WrongEnd))
 
 -- it gives the answer back
 answer-back : (a : Answer) → answerOf (paper a) ≡ a

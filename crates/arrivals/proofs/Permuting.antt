@@ -4,7 +4,7 @@ use mathlib.Core.Path.{_≡_, refl, ap, _∙_}
 use mathlib.Core.Logic.{inl, inr}
 use mathlib.Core.List.{List, [], _∷_}
 use native.Mathlib.Omega.{arith}
-use Rattle.frames.specs.Pick.{pick}
+use mathlib.Core.Bool.{cond}
 use Rattle.arrivals.specs.Trains.{Permuted, done, keep, swap, join, All, Some, EachTwo, piece, lasts}
 
 -- an order is undone by an order
@@ -42,7 +42,7 @@ each-two-permuted R turn (join p q) h = each-two-permuted R turn q (each-two-per
 -- how many lasts there are
 pub lasts-permuted : {xs ys : List (List ℕ)} → Permuted xs ys → lasts xs ≡ lasts ys
 lasts-permuted done = refl
-lasts-permuted (keep {x = x} p) = ap (λ (n : ℕ). pick (piece x .last) 1 0 + n) (lasts-permuted p)
+lasts-permuted (keep {x = x} p) = ap (λ (n : ℕ). cond (piece x .last) 1 0 + n) (lasts-permuted p)
 lasts-permuted swap = omega arith
 lasts-permuted (join p q) = lasts-permuted p ∙ lasts-permuted q
 

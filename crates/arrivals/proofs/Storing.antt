@@ -8,7 +8,7 @@ use lib.ListN.{length, getD, take, drop, length-append, length-take, List·getD-
 use lib.Seq.{getD-append-add, getD-take, getD-drop, length-take-le}
 use Rattle.blocks.specs.Bitmap.{having}
 use Rattle.blocks.proofs.Runs.{inside, below, above, Where, before, within, behind, where-is}
-use Rattle.frames.specs.Buffer.{put}
+use Rattle.base.specs.Buffer.{put}
 
 module _ (at : ℕ) (s b : List ℕ) (fits : at + length s ≤ length b) where
   -- what lies in front of the piece's end

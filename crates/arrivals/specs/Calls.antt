@@ -5,7 +5,7 @@ use mathlib.Core.List.{List, [], _∷_}
 use lib.Dec.{eqb}
 use lib.ListN.{length, getD}
 use Rattle.blocks.specs.Bitmap.{bit}
-use Rattle.frames.specs.Pick.{pick}
+use mathlib.Core.Bool.{cond}
 use Rattle.fragments.specs.Promises.{Takes, Releases}
 use Rattle.fragments.specs.declared.answer.State.{State}
 use Rattle.fragments.specs.declared.answer.State.the-variants.{Empty}
@@ -77,7 +77,7 @@ Host = ℕ → Store
 
 -- the host once the guest `who` has this store
 abbrev pub storing : Host → (who : ℕ) → Store → Host
-storing host who store other = pick (eqb who other) store (host other)
+storing host who store other = cond (eqb who other) store (host other)
 
 -- calls on the stores of any guests in any order: each is on its guest's own
 abbrev pub Serves : Host → List Call → Type 0
@@ -87,7 +87,7 @@ Serves host (call ∷ rest) = Keeps (call .asked) (host (call .who)) (after call
 -- the calls of one guest
 abbrev pub callsOf : (who : ℕ) → List Call → List Call
 callsOf who [] = []
-callsOf who (call ∷ rest) = pick (eqb (call .who) who) (call ∷ callsOf who rest) (callsOf who rest)
+callsOf who (call ∷ rest) = cond (eqb (call .who) who) (call ∷ callsOf who rest) (callsOf who rest)
 
 -- what a guest's calls answer and leave
 pub record Got : Type 0 where

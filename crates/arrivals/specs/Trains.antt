@@ -3,13 +3,12 @@
 -- empty store, with no release or other datagram's fragment between, ends complete, and each byte of the payload is the byte of the fragment
 -- that covers its place".
 use Prim.Native.Nat.{ℕ, _+_, _-_, _≤_, _<_}
-use mathlib.Core.Bool.{true}
+use mathlib.Core.Bool.{true, cond}
 use mathlib.Core.Logic.{_⊎_}
 use mathlib.Core.Path.{_≡_}
 use mathlib.Core.List.{List, [], _∷_}
 use lib.ListN.{length, getD}
-use Rattle.fields.specs.Rfc894.{body}
-use Rattle.frames.specs.Pick.{pick}
+use Rattle.wire.specs.Rfc894.{body}
 use Rattle.fragments.specs.Answer.{stored, complete, refused, paper}
 use Rattle.fragments.specs.Promises.{storedPayload}
 use Rattle.fragments.specs.Rfc791.{packetOf, fragmentOf}
@@ -62,7 +61,7 @@ Apart one other = (endOf (piece one) ≤ piece other .offset) ⊎ (endOf (piece 
 -- how many lasts there are
 abbrev pub lasts : (frames : List (List ℕ)) → ℕ
 lasts [] = 0
-lasts (frame ∷ frames) = pick (piece frame .last) 1 0 + lasts frames
+lasts (frame ∷ frames) = cond (piece frame .last) 1 0 + lasts frames
 
 -- the fragments of a datagram whose payload is `end` bytes long
 pub record Train (datagram : Datagram) (end : ℕ) (frames : List (List ℕ)) : Type 0 where

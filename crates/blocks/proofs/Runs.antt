@@ -1,6 +1,6 @@
 -- The blocks of a bitmap, run by run: counting them word by word, and which are there once a run is marked.
 use Prim.Native.Nat.{ℕ, zero, suc, _+_, _-_, _*_, _/_, _%_, _^_, _≤_, _<_}
-use mathlib.Core.Bool.{Bool, true, false, _&&_}
+use mathlib.Core.Bool.{Bool, true, false, _&&_, cond}
 use mathlib.Core.List.{List}
 use mathlib.Core.Path.{_≡_, refl, sym, ap, ap₂, _∙_}
 use native.Mathlib.Nat.{add-assoc, zero-add, add-zero, suc-add, not-le-of-lt, lt-of-le-of-lt}
@@ -12,7 +12,6 @@ use lib.Dec.{leb, ltb, eqb}
 use lib.ListN.{length, getD, set}
 use lib.Pow.{shr-shr}
 use lib.Seq.{getD-set-same, getD-set-other}
-use Rattle.frames.specs.Pick.{pick}
 use Rattle.blocks.specs.Bitmap.{bit, count, having}
 use Rattle.blocks.proofs.Digits.{digit, run, or-inside, or-below, or-above}
 
@@ -58,7 +57,7 @@ pub above : (there : ℕ → ℕ) (first stop b : ℕ) → stop ≤ b → having
 unfolding having
 above there first stop b h = go (leb first b)
   where
-    go : (t : Bool) → pick (t && ltb b stop) 1 (there b) ≡ there b
+    go : (t : Bool) → cond (t && ltb b stop) 1 (there b) ≡ there b
     go true = simp (le-ltb b stop h)
     go false = refl
 

@@ -3,11 +3,11 @@ use Prim.Native.Nat.{ℕ, _≤_, _<_}
 use mathlib.Core.Path.{_≡_}
 use mathlib.Core.List.{List, [], _∷_}
 use lib.ListN.{length}
-use Rattle.frames.specs.Answer.{paper, Wrote}
-use Rattle.frames.specs.declared.answer.Verdict.{Verdict}
-use Rattle.frames.specs.declared.network.Network.{Network}
-use Rattle.frames.proofs.Fitting.{on-no-room, short-of-room, on-written, with-room, fits-in-buffer}
-use Rattle.frames.proofs.InBuffer.{InBuffer}
+use Rattle.record.specs.Answer.{paper, Wrote}
+use Rattle.record.specs.declared.answer.Verdict.{Verdict}
+use Rattle.record.specs.declared.network.Network.{Network}
+use Rattle.record.proofs.Fitting.{on-no-room, short-of-room, on-written, with-room, fits-in-buffer}
+use Rattle.record.proofs.InBuffer.{InBuffer}
 use Rattle.dhcp.specs.Rfc2131.{buildReply, reply}
 use Rattle.dhcp.proofs.ReadBack.{FourBytes, reply-reads-back}
 

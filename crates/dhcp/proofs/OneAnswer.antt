@@ -3,10 +3,10 @@ use Prim.Native.Nat.{ℕ}
 use mathlib.Core.Path.{_≡_}
 use mathlib.Core.List.{List}
 use lib.ListN.{length}
-use Rattle.frames.specs.Answer.{Wrote}
-use Rattle.frames.specs.declared.answer.Verdict.{Verdict}
-use Rattle.frames.specs.declared.network.Network.{Network}
-use Rattle.frames.proofs.OneAnswer.{one-writing}
+use Rattle.record.specs.Answer.{Wrote}
+use Rattle.record.specs.declared.answer.Verdict.{Verdict}
+use Rattle.record.specs.declared.network.Network.{Network}
+use Rattle.record.proofs.OneAnswer.{one-writing}
 use Rattle.dhcp.specs.Rfc2131.{buildReply}
 
 pub build-reply-answers-once : (before after after′ : List ℕ) (v v′ : Verdict) (net : Network) (mac : List ℕ) (xid type : ℕ)

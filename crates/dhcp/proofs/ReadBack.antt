@@ -4,11 +4,11 @@ use mathlib.Core.Path.{_≡_, refl, ap, sym, _∙_}
 use mathlib.Core.List.{List, [], _∷_}
 use native.Mathlib.Omega.{arith}
 use lib.ListN.{length, getD, replicate, getD-replicate}
-use Rattle.fields.specs.Bytes.{u8At, u32At, bytesAt}
-use Rattle.fields.specs.Rfc2131.{operation, hardwareType, hardwareLength, hopCount, transactionId, secondsElapsed, flagsField, clientAddress, yourAddress, serverAddress, relayAddress, hardwareAddress, magicCookie}
-use Rattle.frames.specs.Network.{network}
-use Rattle.frames.specs.declared.network.Network.{Network}
-use Rattle.frames.proofs.Lists.{all-bytes}
+use Rattle.base.specs.Bytes.{u8At, u32At, bytesAt}
+use Rattle.wire.specs.Rfc2131.{operation, hardwareType, hardwareLength, hopCount, transactionId, secondsElapsed, flagsField, clientAddress, yourAddress, serverAddress, relayAddress, hardwareAddress, magicCookie}
+use Rattle.record.specs.Network.{network}
+use Rattle.record.specs.declared.network.Network.{Network}
+use Rattle.base.proofs.Lists.{all-bytes}
 use Rattle.dhcp.specs.Rfc2131.{reply}
 
 -- the lengths that a network's arrays have by their types

@@ -3,8 +3,8 @@ use Prim.Native.Nat.{ℕ}
 use mathlib.Core.Path.{_≡_, refl}
 use mathlib.Core.List.{List}
 use lib.ListN.{length}
-use Rattle.frames.specs.declared.network.Network.{Network}
-use Rattle.frames.proofs.Lists.{all-bytes}
+use Rattle.record.specs.declared.network.Network.{Network}
+use Rattle.base.proofs.Lists.{all-bytes}
 use Rattle.dhcp.specs.Rfc2131.{reply}
 use Rattle.options.specs.Rfc2132.{typed, walk, walkFrom}
 use Rattle.dhcp.proofs.ReadBack.{FourBytes}

@@ -2,9 +2,9 @@
 use Prim.Native.Nat.{ℕ}
 use mathlib.Core.List.{List, [], _∷_, _++_}
 use lib.ListN.{getD, replicate}
-use Rattle.fields.specs.Bytes.{be32}
-use Rattle.frames.specs.declared.network.Network.{Network}
-use Rattle.dhcp.specs.Rfc2131.{cookie}
+use Rattle.base.specs.Bytes.{be32}
+use Rattle.record.specs.declared.network.Network.{Network}
+use Rattle.wire.specs.Rfc2131.{cookie}
 use Rattle.options.specs.Rfc2132.{option}
 
 -- all fields up to the MAC

@@ -3,15 +3,12 @@ use Prim.Native.Nat.{ℕ}
 use mathlib.Core.List.{List, [], _∷_, _++_}
 use lib.ListN.{replicate}
 use lib.Dec.{eqb}
-use Rattle.fields.specs.Bytes.{be16, be32}
-use Rattle.frames.specs.Pick.{pick}
-use Rattle.frames.specs.Answer.{Writing, fitting}
-use Rattle.frames.specs.declared.network.Network.{Network}
+use Rattle.base.specs.Bytes.{be16, be32}
+use mathlib.Core.Bool.{cond}
+use Rattle.record.specs.Answer.{Writing, fitting}
+use Rattle.record.specs.declared.network.Network.{Network}
 use Rattle.options.specs.Rfc2132.{option}
-
--- section 3: "99, 130, 83 and 99"
-abbrev pub cookie : List ℕ
-cookie = 0x63 ∷ 0x82 ∷ 0x53 ∷ 0x63 ∷ []
+use Rattle.wire.specs.Rfc2131.{cookie}
 
 -- The reply, field by field at its offset. All that has no value of its own is 0.
 unfoldable pub reply : Network → (mac : List ℕ) (xid type : ℕ) → List ℕ
@@ -42,4 +39,4 @@ buildReply net mac xid type room = fitting 300 room (reply net mac xid type)
 
 -- "Message type 1 gives an offer (2), 3 an acknowledgement (5), any other a drop": the reply's type, 0 where there is none
 abbrev pub answering : (type : ℕ) → ℕ
-answering type = pick (eqb type 1) 2 (pick (eqb type 3) 5 0)
+answering type = cond (eqb type 1) 2 (cond (eqb type 3) 5 0)

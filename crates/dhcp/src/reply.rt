@@ -2,17 +2,17 @@
 ghost use mathlib.Core.Path.{_≡_};
 ghost use Prim.Native.Nat.{_≤_};
 ghost use lib.ListN.{length};
-ghost use Rattle.frames.specs.Answer.{Wrote};
-ghost use Rattle.frames.specs.Buffer.{put as Buffer·put, putIfFits};
+ghost use Rattle.record.specs.Answer.{Wrote};
+ghost use Rattle.base.specs.Buffer.{put as Buffer·put, putIfFits};
 ghost use Rattle.dhcp.specs.Rfc2131.{answering, buildReply};
 ghost use Rattle.dhcp.specs.Pieces.{firstFields, fixedPart, written, values as Pieces·values};
 ghost use Rattle.options.specs.Rfc2132.{option};
-use fields::be32;
-use frames::Network;
-use frames::Verdict;
-use frames::put;
+use base::put;
 use options::END;
 use options::MESSAGE_TYPE;
+use record::Network;
+use record::Verdict;
+use wire::bytes::be32;
 
 // What the reply holds before its options: a reply, for Ethernet, whose addresses have six bytes.
 const BOOT_REPLY: u8 = 2;

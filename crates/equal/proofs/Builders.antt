@@ -5,13 +5,14 @@ use mathlib.Core.List.{List, [], _∷_, _++_}
 use native.Mathlib.Omega.{arith}
 use borrow.Author.Tests.{lt-ltb, le-ltb}
 use lib.ListN.{length}
-use Rattle.fields.specs.Bytes.{be16, bytesAt}
-use Rattle.frames.proofs.Lists.{all-bytes}
+use Rattle.base.specs.Bytes.{be16, bytesAt}
+use Rattle.base.proofs.Lists.{all-bytes}
 use Rattle.frames.proofs.Lengths.{length-header}
-use Rattle.frames.specs.Rfc791.{headerWith, header, ipFrame}
-use Rattle.frames.specs.Rfc894.{ethernet}
-use Rattle.frames.specs.Network.{gatewayMac}
-use Rattle.frames.specs.Rfc768.{datagram}
+use Rattle.wire.specs.Rfc791.{headerWith, header}
+use Rattle.frames.specs.Frames.{ipFrame}
+use Rattle.wire.specs.Rfc894.{ethernet}
+use Rattle.record.specs.Network.{gatewayMac}
+use Rattle.wire.specs.Rfc768.{datagram}
 use Rattle.published.specs.Rust.{Run, gives, cuts, _>>=_, Slice, lenOf, zeros, store, copy, copyFrom, u16ToBe, wrappingAddU16}
 use Rattle.published.specs.Frames.{Counted, «HOST_MAC», «ETHERTYPE_IP», «make_ip_frame», «make_udp_payload»}
 use Rattle.sums.specs.Rfc1071.{checksum}

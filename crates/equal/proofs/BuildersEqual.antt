@@ -8,17 +8,17 @@ use native.Mathlib.Omega.{arith}
 use borrow.Author.Tests.{ltb-true, ltb-false, lt-ltb, le-ltb}
 use lib.Dec.{ltb}
 use lib.ListN.{length}
-use Rattle.frames.specs.Answer.{Wrote, Meets, building, spending}
+use Rattle.record.specs.Answer.{Wrote, Meets, building, spending}
 use Rattle.frames.specs.Builders.{makeIpFrame, makeUdpPayload}
-use Rattle.frames.specs.Rfc768.{datagram}
-use Rattle.frames.specs.Rfc791.{ipFrame}
-use Rattle.frames.specs.declared.answer.Answer.{Answer}
-use Rattle.frames.specs.declared.answer.Guest.{Guest}
-use Rattle.frames.specs.declared.answer.Verdict.{Verdict}
+use Rattle.wire.specs.Rfc768.{datagram}
+use Rattle.frames.specs.Frames.{ipFrame}
+use Rattle.record.specs.declared.answer.Answer.{Answer}
+use Rattle.record.specs.declared.guest.Guest.{Guest}
+use Rattle.record.specs.declared.answer.Verdict.{Verdict}
 use Rattle.frames.proofs.Lengths.{length-datagram, length-ipFrame}
 use Rattle.published.specs.Rust.{Run, gives, panics, cuts, unfinished, whole}
 use Rattle.published.specs.Frames.{Counted, «make_ip_frame», «make_udp_payload», «make_tcp_frame», checksum as rustChecksum}
-use Rattle.rules.specs.Rules.{unwritten}
+use Rattle.record.specs.Answer.{unwritten}
 use Rattle.sums.specs.Rfc1071.{checksum}
 use Rattle.tcp.specs.Builders.{dataLimit, makeTcpFrame}
 use Rattle.tcp.specs.Rfc9293.{options, tcpFrame}

@@ -6,14 +6,16 @@ use mathlib.Core.Logic.{_⊎_, inl, inr, _↔_}
 use mathlib.Core.List.{List, [], _∷_}
 use native.Mathlib.Omega.{arith}
 use lib.ListN.{length}
-use Rattle.frames.specs.Answer.{Outcome, Meets, fresh}
-use Rattle.frames.specs.Network.{network}
-use Rattle.frames.specs.declared.answer.Answer.{Answer}
-use Rattle.frames.specs.declared.answer.Guest.{Guest}
+use Rattle.record.specs.Answer.{Outcome, Meets}
+use Rattle.record.specs.Guest.{fresh}
+use Rattle.record.specs.Network.{network}
+use Rattle.record.specs.declared.answer.Answer.{Answer}
+use Rattle.record.specs.declared.guest.Guest.{Guest}
 use Rattle.published.specs.Rust.{Run, gives, panics, cuts, unfinished, whole}
 use Rattle.published.specs.Backend.{SlirpBackend}
 use Rattle.published.specs.Slirp.{send, new}
-use Rattle.rules.specs.Rules.{payload, unwritten, outcome, outcomeOf}
+use Rattle.rules.specs.Rules.{payload, outcome, outcomeOf}
+use Rattle.record.specs.Answer.{unwritten}
 use Rattle.rules.specs.Seen.{CutMessage}
 use Rattle.equal.specs.Alike.{recordOf, added, cameOf, Keeps, AllHanded}
 use Rattle.equal.specs.Types.{Bytes, GuestTyped}

@@ -7,10 +7,10 @@ use native.Mathlib.Nat.{zero-add}
 use lib.Bits.{and-mask}
 use lib.ListN.{length, getD, take, drop}
 use lib.Seq.{getD-drop}
-use Rattle.fields.specs.Bytes.{u16At, bytesAt}
-use Rattle.fields.specs.Rfc791.{headerLength, protocolOf, sourceOf, targetOf}
-use Rattle.fields.specs.Rfc894.{body, sourceMac, typeOf}
-use Rattle.frames.proofs.Lists.{part-bytes, from-on}
+use Rattle.base.specs.Bytes.{u16At, bytesAt}
+use Rattle.wire.specs.Rfc791.{headerLength, protocolOf, sourceOf, targetOf}
+use Rattle.wire.specs.Rfc894.{body, sourceMac, typeOf}
+use Rattle.base.proofs.Lists.{part-bytes, from-on}
 use Rattle.published.specs.Rust.{gives, panics, Slice, whole, lenOf, range}
 use Rattle.published.specs.Frames.{«eth_src», «eth_type», «ip_proto», «ip_src», «ip_dst», «ip_hlen», «ip_payload», u16be}
 use Rattle.rules.specs.Rules.{payloadAt, payload}

@@ -8,14 +8,16 @@ use borrow.Author.Tests.{lt-ltb, le-ltb}
 use lib.ListN.{length, take, drop, length-take, length-drop, drop-of-length-le}
 use lib.Seq.{drop-append-seam}
 use Rattle.dhcp.proofs.ReadBack.{four-bytes}
-use Rattle.frames.specs.Answer.{Outcome}
-use Rattle.frames.specs.Network.{network}
-use Rattle.frames.specs.declared.answer.Guest.{Guest}
+use Rattle.record.specs.Answer.{Outcome}
+use Rattle.record.specs.Network.{network}
+use Rattle.record.specs.declared.guest.Guest.{Guest}
 use Rattle.published.specs.Rust.{Run, gives, panics, cuts, unfinished, whole}
 use Rattle.published.specs.Backend.{Call, «handle_tcp», SlirpBackend, withXid, pushed, calling}
 use Rattle.published.specs.Slirp.{send}
-use Rattle.rules.specs.Rfc792.{echo}
-use Rattle.rules.specs.Rules.{payload, decision, noting, unwritten, framing, outcomeOf, outcome}
+use Rattle.wire.specs.Rfc792.{echo}
+use Rattle.rules.specs.Rules.{payload, decision, outcomeOf, outcome}
+use Rattle.record.specs.Guest.{noting}
+use Rattle.record.specs.Answer.{unwritten, framing}
 use Rattle.rules.specs.Seen.{CutMessage, TooLongPing}
 use Rattle.rules.specs.declared.decision.Decision.{Decision}
 use Rattle.rules.specs.declared.decision.Decision.the-variants.{Drop, DropNoting, ArpReply, EchoReply, DhcpReply, Dns, Relay, Tcp, TooLong, CutType}

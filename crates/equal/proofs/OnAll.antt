@@ -7,11 +7,11 @@ use mathlib.Core.List.{List}
 use native.Mathlib.Omega.{arith}
 use borrow.Author.Tests.{le-ltb, eq-eqb, ne-eqb}
 use lib.ListN.{length}
-use Rattle.fields.specs.Rfc768.{sourcePort, targetPort, lengthField}
-use Rattle.fields.specs.Rfc791.{protocolOf, targetOf}
-use Rattle.fields.specs.Rfc894.{body, typeOf}
-use Rattle.fields.specs.Rfc2131.{operation, magicCookie}
-use Rattle.frames.specs.Network.{network}
+use Rattle.wire.specs.Rfc768.{sourcePort, targetPort, lengthField}
+use Rattle.wire.specs.Rfc791.{protocolOf, targetOf}
+use Rattle.wire.specs.Rfc894.{body, typeOf}
+use Rattle.wire.specs.Rfc2131.{operation, magicCookie}
+use Rattle.record.specs.Network.{network}
 use Rattle.published.specs.Rust.{panics, cuts, whole}
 use Rattle.published.specs.Backend.{SlirpBackend}
 use Rattle.published.specs.Slirp.{«handle_icmp», «handle_ip», send}

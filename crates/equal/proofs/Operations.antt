@@ -9,7 +9,7 @@ use native.Mathlib.Nat.{add-assoc}
 use lib.ListN.{length, getD, take, drop, length-append, length-replicate, replicate-append-replicate}
 use lib.Seq.{take-at, drop-at}
 use lib.Dec.{ltb, leb}
-use Rattle.fields.specs.Bytes.{be16, be32, bytesAt}
+use Rattle.base.specs.Bytes.{be16, be32, bytesAt}
 use Rattle.equal.specs.Types.{Bytes}
 use Rattle.published.specs.Rust.{Run, gives, panics, cuts, unfinished, _>>=_, Slice, lenOf, index, range, array, zeros, store, copy, u32ToBe}
 

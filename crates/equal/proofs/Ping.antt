@@ -5,16 +5,16 @@ use mathlib.Core.List.{List, [], _∷_, _++_}
 use native.Mathlib.Omega.{arith}
 use lib.ListN.{length, drop, length-drop, take-append-drop}
 use lib.Seq.{drop-drop}
-use Rattle.fields.specs.Bytes.{bytesAt}
-use Rattle.fields.specs.Rfc791.{sourceOf}
-use Rattle.fields.specs.Rfc894.{body, sourceMac}
-use Rattle.frames.specs.Network.{network}
-use Rattle.frames.specs.Rfc791.{ipFrame}
-use Rattle.frames.proofs.Lists.{part-bytes, from-on}
+use Rattle.base.specs.Bytes.{bytesAt}
+use Rattle.wire.specs.Rfc791.{sourceOf}
+use Rattle.wire.specs.Rfc894.{body, sourceMac}
+use Rattle.record.specs.Network.{network}
+use Rattle.frames.specs.Frames.{ipFrame}
+use Rattle.base.proofs.Lists.{part-bytes, from-on}
 use Rattle.published.specs.Rust.{Run, gives, cuts, _>>=_, Slice, whole, lenOf, zeros, range, rangeFrom, array, copy, copyFrom, u16ToBe}
 use Rattle.published.specs.Frames.{«GW_IP», «IP_PROTO_ICMP», «eth_src», «ip_src», «make_ip_frame», checksum as rustChecksum}
 use Rattle.published.specs.Backend.{SlirpBackend, pushed}
-use Rattle.rules.specs.Rfc792.{echoWith, echo}
+use Rattle.wire.specs.Rfc792.{echoWith, echo}
 use Rattle.sums.specs.Rfc1071.{total, fold, checksum}
 use Rattle.equal.specs.Types.{Bytes}
 use Rattle.equal.proofs.Operations.{same-next, range-in, array-of, copy-over, copy-zeros, copy-rest, bytes-drop, bytes-at}

@@ -1,7 +1,7 @@
 -- The Rust on a guest frame, test by test beside document 01's order of tests: what its run comes to, for each decision.
 use Prim.Native.Nat.{ℕ, _+_, _*_, _-_, _%_, _≤_, min}
 use mathlib.Core.Path.{_≡_, refl, ap, _∙_}
-use mathlib.Core.Bool.{Bool, true, false, not, _&&_, cond}
+use mathlib.Core.Bool.{Bool, true, false, not, _&&_, cond, cond}
 use mathlib.Core.Logic.{_⊎_, inl, inr}
 use mathlib.Core.List.{List, [], _∷_}
 use native.Mathlib.Omega.{arith}
@@ -10,17 +10,16 @@ use borrow.Author.Tests.{ltb-true, ltb-false, eqb-true, not-false}
 use lib.Dec.{ltb, eqb}
 use lib.ListN.{length, take, drop, length-drop}
 use lib.Seq.{drop-drop}
-use Rattle.fields.specs.Bytes.{u8At, u32At, bytesAt}
-use Rattle.fields.proofs.Reading.{four-bytes}
-use Rattle.fields.specs.Rfc768.{sourcePort, targetPort, lengthField}
-use Rattle.fields.specs.Rfc791.{protocolOf, sourceOf, targetOf}
-use Rattle.fields.specs.Rfc792.{messageType}
-use Rattle.fields.specs.Rfc826 as Arp
-use Rattle.fields.specs.Rfc894.{body, typeOf, sourceMac}
-use Rattle.fields.specs.Rfc2131 as Dhcp
-use Rattle.frames.specs.Network.{network}
-use Rattle.frames.specs.Pick.{pick}
-use Rattle.frames.proofs.Lists.{from-on}
+use Rattle.base.specs.Bytes.{u8At, u32At, bytesAt}
+use Rattle.wire.proofs.Reading.{four-bytes}
+use Rattle.wire.specs.Rfc768.{sourcePort, targetPort, lengthField}
+use Rattle.wire.specs.Rfc791.{protocolOf, sourceOf, targetOf}
+use Rattle.wire.specs.Rfc792.{messageType}
+use Rattle.wire.specs.Rfc826 as Arp
+use Rattle.wire.specs.Rfc894.{body, typeOf, sourceMac}
+use Rattle.wire.specs.Rfc2131 as Dhcp
+use Rattle.record.specs.Network.{network}
+use Rattle.base.proofs.Lists.{from-on}
 use Rattle.options.specs.Rfc2132.{Walked, typed, cut, walk}
 use Rattle.published.specs.Rust.{Run, gives, panics, cuts, _>>=_, Slice, whole, range, store, copy, sameArray, u32FromBe}
 use Rattle.published.specs.Backend.{«handle_dns», «relay_datagram», «handle_tcp», SlirpBackend, withXid, pushed, calling}
@@ -61,7 +60,7 @@ Ran self frame r (TooLong len) = r ≡ cuts
 Ran self frame r (CutType place) = r ≡ panics
 
 -- two choices by one test
-both : (P : Run SlirpBackend → Decision → Type 0) (t : Bool) (r r′ : Run SlirpBackend) (d d′ : Decision) → (t ≡ true → P r d) → (t ≡ false → P r′ d′) → P (cond t r r′) (pick t d d′)
+both : (P : Run SlirpBackend → Decision → Type 0) (t : Bool) (r r′ : Run SlirpBackend) (d d′ : Decision) → (t ≡ true → P r d) → (t ≡ false → P r′ d′) → P (cond t r r′) (cond t d d′)
 both P true r r′ d d′ f g = f refl
 both P false r r′ d d′ f g = g refl
 
@@ -85,10 +84,10 @@ and-swap false true = refl
 and-swap false false = refl
 
 -- "the smaller of length field and payload end"
-smaller : (stated there : ℕ) → min stated there ≡ pick (ltb there stated) there stated
+smaller : (stated there : ℕ) → min stated there ≡ cond (ltb there stated) there stated
 smaller stated there = go (ltb there stated) refl
   where
-    go : (t : Bool) → ltb there stated ≡ t → min stated there ≡ pick (ltb there stated) there stated
+    go : (t : Bool) → ltb there stated ≡ t → min stated there ≡ cond (ltb there stated) there stated
     go true e = rw e (omega (arith, ltb-true there stated e))
     go false e = rw e (omega (arith, ltb-false there stated e))
 
@@ -191,7 +190,7 @@ module _ (self : SlirpBackend) (frame : List ℕ) (as-typed : GuestTyped (record
           (cond one («send_dhcp_reply» (withXid xid self) (whole frame) xid 2)
           (cond three («send_dhcp_reply» (withXid xid self) (whole frame) xid 5)
           (gives (withXid xid self))))
-          (pick (eqb (pick one 2 (pick three 5 0)) 0) (DropNoting xid) (DhcpReply xid (pick one 2 (pick three 5 0))))
+          (cond (eqb (cond one 2 (cond three 5 0)) 0) (DropNoting xid) (DhcpReply xid (cond one 2 (cond three 5 0))))
       go true three = leased _ xid 2 (lease-sent self frame as-typed long xid 2)
       go false true = leased _ xid 5 (lease-sent self frame as-typed long xid 5)
       go false false = noted xid
@@ -246,7 +245,7 @@ module _ (self : SlirpBackend) (frame : List ℕ) (as-typed : GuestTyped (record
       )
     where
       go : (t : Bool) → ltb (length (payload frame)) (lengthField (payload frame)) ≡ t
-          → (8 ≤ pick t (length (payload frame)) (lengthField (payload frame))) × (pick t (length (payload frame)) (lengthField (payload frame)) ≤ length (payload frame))
+          → (8 ≤ cond t (length (payload frame)) (lengthField (payload frame))) × (cond t (length (payload frame)) (lengthField (payload frame)) ≤ length (payload frame))
       go true e = (whole, omega arith)
       go false e = (stated, ltb-false (length (payload frame)) (lengthField (payload frame)) e)
 

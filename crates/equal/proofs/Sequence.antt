@@ -1,16 +1,16 @@
 -- A guest's calls one after the other, and the same frames sent to one backend of the Rust: each answer is the Rust's, and the record is carried on alike.
 use Prim.Native.Nat.{ℕ, _+_, _%_}
 use mathlib.Core.Path.{sym, subst, _∙_}
-use mathlib.Core.Bool.{Bool, true, false}
+use mathlib.Core.Bool.{Bool, true, false, cond}
 use mathlib.Core.List.{List, [], _∷_}
 use native.Mathlib.Omega.{arith}
 use lib.Dec.{ltb}
 use lib.ListN.{length}
-use Rattle.frames.specs.Network.{network}
-use Rattle.frames.specs.Pick.{pick}
-use Rattle.frames.specs.declared.answer.Guest.{Guest}
+use Rattle.record.specs.Network.{network}
+use Rattle.record.specs.declared.guest.Guest.{Guest}
 use Rattle.published.specs.Backend.{SlirpBackend}
-use Rattle.rules.specs.Rules.{decision, framing, outcomeOf, outcome}
+use Rattle.rules.specs.Rules.{decision, outcomeOf, outcome}
+use Rattle.record.specs.Answer.{framing}
 use Rattle.rules.specs.declared.decision.Decision.{Decision}
 use Rattle.rules.specs.declared.decision.Decision.the-variants.{Drop, DropNoting, ArpReply, EchoReply, DhcpReply, Dns, Relay, Tcp, TooLong, CutType}
 use Rattle.equal.specs.Alike.{recordOf}
@@ -30,7 +30,7 @@ module _ (guest : Guest) (typed : GuestTyped guest) where
   unfolding framing
   framed-typed next need room image t = go (ltb room need)
     where
-      go : (short : Bool) → GuestTyped (pick short guest next)
+      go : (short : Bool) → GuestTyped (cond short guest next)
       go true = typed
       go false = t
 

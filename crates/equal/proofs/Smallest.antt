@@ -8,11 +8,11 @@ use borrow.Author.Tests.{ltb-true}
 use lib.Dec.{ltb}
 use native.Mathlib.Omega.{arith}
 use lib.ListN.{length, drop, length-take, length-drop}
-use Rattle.fields.specs.Bytes.{u8At}
-use Rattle.fields.specs.Rfc791.{headerLength, targetOf}
-use Rattle.fields.specs.Rfc792.{messageType}
-use Rattle.fields.specs.Rfc894.{body}
-use Rattle.frames.specs.Network.{network}
+use Rattle.base.specs.Bytes.{u8At}
+use Rattle.wire.specs.Rfc791.{headerLength, targetOf}
+use Rattle.wire.specs.Rfc792.{messageType}
+use Rattle.wire.specs.Rfc894.{body}
+use Rattle.record.specs.Network.{network}
 use Rattle.options.specs.Rfc2132.{walk, walkFrom}
 use Rattle.options.proofs.CutPlace.{cut-place}
 use Rattle.rules.specs.Rules.{payloadAt, payload, dataAt, dataLength, datagramData}

@@ -1,17 +1,16 @@
 -- What the Rust's `make_tcp_frame` gives: RFC 9293's segment in its frame, or a length that is cut.
 use Prim.Native.Nat.{ℕ, _+_, _*_, _-_, _/_, _%_, _≤_, _<_}
 use mathlib.Core.Path.{_≡_, refl, sym, _∙_}
-use mathlib.Core.Bool.{Bool, true, false, not, cond}
+use mathlib.Core.Bool.{Bool, true, false, not, cond, cond}
 use mathlib.Core.List.{List, [], _∷_, _++_}
 use native.Mathlib.Omega.{arith}
 use borrow.Author.Tests.{lt-ltb, eqb-true, eqb-false}
 use lib.Bits.{bitAnd}
 use lib.Dec.{ltb, eqb}
 use lib.ListN.{length, length-append}
-use Rattle.fields.specs.Bytes.{be16, be32, bytesAt}
-use Rattle.frames.proofs.Lists.{all-bytes}
-use Rattle.frames.specs.Pick.{pick}
-use Rattle.frames.specs.Rfc768.{pseudoHeader}
+use Rattle.base.specs.Bytes.{be16, be32, bytesAt}
+use Rattle.base.proofs.Lists.{all-bytes}
+use Rattle.wire.specs.Rfc768.{pseudoHeader}
 use Rattle.published.specs.Rust.{Run, gives, cuts, _>>=_, Slice, whole, lenOf, zeros, asU16, u16ToBe}
 use Rattle.published.specs.Frames.{Counted, «make_ip_frame», «make_tcp_frame», checksum as rustChecksum}
 use Rattle.tcp.specs.Rfc9293.{synSet, synOptions, options, segmentHeader, covered, summedHeader, segment, tcpFrame}
@@ -34,7 +33,7 @@ opts : (flags : ℕ) → cond (not (eqb (bitAnd flags 0x02) 0)) synOptions [] �
 unfolding options
 opts flags = go (eqb (bitAnd flags 2) 0) refl
   where
-    go : (none : Bool) → eqb (bitAnd flags 2) 0 ≡ none → cond (not none) synOptions [] ≡ pick (synSet flags) synOptions []
+    go : (none : Bool) → eqb (bitAnd flags 2) 0 ≡ none → cond (not none) synOptions [] ≡ cond (synSet flags) synOptions []
     go true e = rw (without-syn flags (eqb-true (bitAnd flags 2) 0 e))
     go false e = rw (with-syn flags (eqb-false (bitAnd flags 2) 0 e))
 

@@ -3,12 +3,12 @@ use Prim.Native.Nat.{ℕ}
 use mathlib.Core.Path.{_≡_}
 use mathlib.Core.List.{List, [], _∷_, _++_}
 use lib.ListN.{length, drop}
-use Rattle.fields.specs.Bytes.{part}
-use Rattle.fields.specs.Rfc768.{sourcePort, targetPort}
-use Rattle.fields.specs.Rfc791.{sourceOf, targetOf}
-use Rattle.fields.specs.Rfc894.{body, sourceMac}
-use Rattle.frames.specs.Answer.{Writing, Outcome}
-use Rattle.frames.specs.declared.answer.Guest.{Guest}
+use Rattle.base.specs.Bytes.{part}
+use Rattle.wire.specs.Rfc768.{sourcePort, targetPort}
+use Rattle.wire.specs.Rfc791.{sourceOf, targetOf}
+use Rattle.wire.specs.Rfc894.{body, sourceMac}
+use Rattle.record.specs.Answer.{Writing, Outcome}
+use Rattle.record.specs.declared.guest.Guest.{Guest}
 use Rattle.published.specs.Rust.{Slice, whole, lenOf}
 use Rattle.published.specs.Frames.{Endpoints as RustEndpoints, Counted}
 use Rattle.published.specs.Backend.{Call, «handle_dns», «relay_datagram», «handle_tcp», SlirpBackend}

@@ -4,13 +4,13 @@ use mathlib.Core.Path.{_≡_}
 use mathlib.Core.Logic.{_↔_}
 use mathlib.Core.List.{List, [], _∷_}
 use lib.ListN.{length}
-use Rattle.frames.specs.Answer.{Wrote, Meets}
-use Rattle.frames.specs.declared.answer.Answer.{Answer}
-use Rattle.frames.specs.declared.answer.Guest.{Guest}
-use Rattle.frames.specs.declared.answer.Verdict.{Verdict}
+use Rattle.record.specs.Answer.{Wrote, Meets}
+use Rattle.record.specs.declared.answer.Answer.{Answer}
+use Rattle.record.specs.declared.guest.Guest.{Guest}
+use Rattle.record.specs.declared.answer.Verdict.{Verdict}
 use Rattle.published.specs.Rust.{Run, gives, panics, cuts, unfinished}
 use Rattle.published.specs.Frames.{Counted}
-use Rattle.rules.specs.Rules.{unwritten}
+use Rattle.record.specs.Answer.{unwritten}
 use Rattle.equal.specs.Alike.{cameOfBuilder, writtenAs, unwrittenAs}
 
 -- one that takes an id

@@ -3,10 +3,10 @@ use Prim.Native.Nat.{ℕ, _≤_}
 use mathlib.Core.Path.{_≡_}
 use mathlib.Core.List.{List, [], _∷_}
 use lib.ListN.{length}
-use Rattle.frames.specs.Answer.{Meets}
-use Rattle.frames.specs.Network.{network}
-use Rattle.frames.specs.declared.answer.Answer.{Answer}
-use Rattle.frames.specs.declared.answer.Guest.{Guest}
+use Rattle.record.specs.Answer.{Meets}
+use Rattle.record.specs.Network.{network}
+use Rattle.record.specs.declared.answer.Answer.{Answer}
+use Rattle.record.specs.declared.guest.Guest.{Guest}
 use Rattle.published.specs.Rust.{gives, whole}
 use Rattle.published.specs.Backend.{SlirpBackend}
 use Rattle.published.specs.Slirp.{send}

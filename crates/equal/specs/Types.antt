@@ -3,7 +3,7 @@ use Prim.Native.Nat.{ℕ, _<_}
 use mathlib.Core.Path.{_≡_}
 use mathlib.Core.List.{List, [], _∷_}
 use lib.ListN.{length}
-use Rattle.frames.specs.declared.answer.Guest.{Guest}
+use Rattle.record.specs.declared.guest.Guest.{Guest}
 use Rattle.tcp.specs.declared.Endpoints.{Endpoints}
 
 -- each element is a `u8`

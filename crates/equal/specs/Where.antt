@@ -4,9 +4,9 @@ use mathlib.Core.Logic.{_⊎_}
 use mathlib.Core.Path.{_≡_}
 use mathlib.Core.List.{List}
 use lib.ListN.{length}
-use Rattle.fields.specs.Rfc791.{targetOf}
-use Rattle.fields.specs.Rfc894.{body}
-use Rattle.frames.specs.Network.{network}
+use Rattle.wire.specs.Rfc791.{targetOf}
+use Rattle.wire.specs.Rfc894.{body}
+use Rattle.record.specs.Network.{network}
 use Rattle.rules.specs.Rules.{payloadAt}
 use Rattle.rules.specs.Seen.{Carries, CutMessage, TooLongPing}
 

@@ -2,27 +2,27 @@
 -- passed say so.
 use Prim.Native.Nat.{ℕ, _+_, _%_, _≤_}
 use mathlib.Core.Path.{_≡_, refl, subst}
-use mathlib.Core.Bool.{Bool, true, false, _&&_, _||_, not, and-eq-true-iff}
+use mathlib.Core.Bool.{Bool, true, false, _&&_, _||_, not, and-eq-true-iff, cond}
 use mathlib.Core.List.{List}
 use native.Mathlib.Omega.{arith}
 use borrow.Author.Tests.{leb-true, not-true, not-false, eqb-true, eqb-false}
 use lib.ListN.{length, length-drop}
 use lib.Dec.{leb, eqb}
-use Rattle.fields.specs.Rfc791.{version, headerLength, totalLength}
-use Rattle.fields.specs.Rfc894.{body, typeOf}
-use Rattle.frames.specs.Pick.{pick}
-use Rattle.fragments.specs.Rfc791.{soundHeader, sound, moreFragments, fragmentOffset, isWhole, payloadLength, goodLength, fragmentOf, packetOf}
+use Rattle.wire.specs.Rfc791.{version, headerLength, totalLength}
+use Rattle.wire.specs.Rfc894.{body, typeOf}
+use Rattle.fragments.specs.Rfc791.{soundHeader, sound, isWhole, payloadLength, goodLength, fragmentOf, packetOf}
+use Rattle.wire.specs.Rfc791.{moreFragments, fragmentOffset}
 use Rattle.fragments.specs.Rules.{endOf}
 use Rattle.fragments.specs.declared.packet.Fragment.{Fragment}
 use Rattle.fragments.specs.declared.packet.Packet.{Packet}
 use Rattle.fragments.specs.declared.packet.Packet.the-variants.{Unfit, Whole, Part}
 
 -- a test that would have given another packet has failed
-past-unfit : (t : Bool) (p : Packet) (f : Fragment) → pick t Unfit p ≡ Part f → (t ≡ false) × (p ≡ Part f)
+past-unfit : (t : Bool) (p : Packet) (f : Fragment) → cond t Unfit p ≡ Part f → (t ≡ false) × (p ≡ Part f)
 past-unfit true p f e = let z : _≡_ {A = ℕ} 0 1 = cc in absurd (omega arith)
 past-unfit false p f e = (refl, e)
 
-past-whole : (t : Bool) (start length : ℕ) (p : Packet) (f : Fragment) → pick t (Whole start length) p ≡ Part f → p ≡ Part f
+past-whole : (t : Bool) (start length : ℕ) (p : Packet) (f : Fragment) → cond t (Whole start length) p ≡ Part f → p ≡ Part f
 past-whole true start length p f e = let z : _≡_ {A = ℕ} 0 1 = cc in absurd (omega arith)
 past-whole false start length p f e = e
 
@@ -111,13 +111,13 @@ whole-fits frame start n =
     go (sound frame) (isWhole (body frame)) (not (goodLength (moreFragments (body frame)) (payloadLength (body frame))))
     (not (leb (fragmentOffset (body frame) + payloadLength (body frame)) 65515)) (fragmentOf (body frame)) refl
   where
-    fragment : (x y : Bool) (f : Fragment) → pick x Unfit (pick y Unfit (Part f)) ≡ Whole start n → ⊥
+    fragment : (x y : Bool) (f : Fragment) → cond x Unfit (cond y Unfit (Part f)) ≡ Whole start n → ⊥
     fragment true y f e = let z : _≡_ {A = ℕ} 0 1 = cc in omega arith
     fragment false true f e = let z : _≡_ {A = ℕ} 0 1 = cc in omega arith
     fragment false false f e = let z : _≡_ {A = ℕ} 0 1 = cc in omega arith
 
     go : (s w x y : Bool) (f : Fragment) → sound frame ≡ s
-        → pick (not s) Unfit (pick w (Whole (14 + headerLength (body frame)) (payloadLength (body frame))) (pick x Unfit (pick y Unfit (Part f)))) ≡ Whole start n
+        → cond (not s) Unfit (cond w (Whole (14 + headerLength (body frame)) (payloadLength (body frame))) (cond x Unfit (cond y Unfit (Part f)))) ≡ Whole start n
         → start + n ≤ length frame
     go false w x y f s e = let z : _≡_ {A = ℕ} 0 1 = cc in absurd (omega arith)
     go true true x y f s e =

@@ -1,13 +1,12 @@
 -- What is to be stored is a fit fragment, in a store of the right size: every other way through the rules ends in another ruling.
 use Prim.Native.Nat.{ℕ}
-use mathlib.Core.Bool.{Bool, true, false, not}
+use mathlib.Core.Bool.{Bool, true, false, not, cond}
 use mathlib.Core.List.{List}
 use mathlib.Core.Path.{_≡_, refl, subst}
 use native.Mathlib.Omega.{arith}
 use borrow.Author.Tests.{not-false}
 use lib.ListN.{length}
 use Rattle.blocks.specs.Bitmap.{bit}
-use Rattle.frames.specs.Pick.{pick}
 use Rattle.fragments.specs.Rfc791.{packetOf}
 use Rattle.fragments.specs.Rules.{ofSize, isHeld, overlaps, wrongEnd, knownEnd, endWith, partRuling, packetRuling, ruling}
 use Rattle.fragments.specs.declared.answer.Answer.{Answer}
@@ -20,7 +19,7 @@ use Rattle.fragments.specs.declared.ruling.Ruling.{Ruling}
 use Rattle.fragments.specs.declared.ruling.Ruling.the-variants.{Refuse, Store}
 
 -- a test that would have refused has failed
-past-refusal : (t : Bool) (answer : Answer) (r : Ruling) (f : Fragment) (end : End) → pick t (Refuse answer) r ≡ Store f end → (t ≡ false) × (r ≡ Store f end)
+past-refusal : (t : Bool) (answer : Answer) (r : Ruling) (f : Fragment) (end : End) → cond t (Refuse answer) r ≡ Store f end → (t ≡ false) × (r ≡ Store f end)
 past-refusal true answer r f end e = let z : _≡_ {A = ℕ} 0 1 = cc in absurd (omega arith)
 past-refusal false answer r f end e = (refl, e)
 

@@ -1,6 +1,6 @@
 -- A fragment that fits is stored whole: its payload is copied, its blocks are marked, and the answer goes by the blocks that are there then.
 use Prim.Native.Nat.{ℕ, _+_, _-_, _*_, _≤_}
-use mathlib.Core.Bool.{Bool, true, and-eq-true-iff}
+use mathlib.Core.Bool.{Bool, true, and-eq-true-iff, cond}
 use mathlib.Core.List.{List}
 use mathlib.Core.Path.{_≡_, ap, fun-ext, _∙_}
 use native.Mathlib.Omega.{arith}
@@ -9,9 +9,8 @@ use lib.Dec.{eqb}
 use lib.ListN.{length, take, drop, length-drop}
 use lib.Seq.{length-take-le}
 use Rattle.blocks.specs.Bitmap.{bit, having, Marked}
-use Rattle.fields.specs.Bytes.{part}
-use Rattle.frames.specs.Buffer.{put, putIfFits}
-use Rattle.frames.specs.Pick.{pick}
+use Rattle.base.specs.Bytes.{part}
+use Rattle.base.specs.Buffer.{put, putIfFits}
 use Rattle.fragments.specs.Rules.{ofSize, blocksOf, endOf, firstBlock, stopBlock}
 use Rattle.fragments.specs.declared.packet.Fragment.{Fragment}
 
@@ -30,7 +29,7 @@ copied f frame bytes inside short size =
     let payload = part frame (f .start) (f .length) in
     let long : length payload ≡ f .length = length-take-le (f .length) (drop (f .start) frame) (omega (arith, length-drop (f .start) frame)) in
     ap (λ (n : ℕ). putIfFits (f .offset) (take n (drop (f .start) frame)) bytes) {x = f .start + f .length - f .start} {y = f .length} (omega arith)
-    ∙ ap (λ (t : Bool). pick t (put (f .offset) payload bytes) bytes) (le-leb (f .offset + length payload) (length bytes) (omega (arith, long)))
+    ∙ ap (λ (t : Bool). cond t (put (f .offset) payload bytes) bytes) (le-leb (f .offset + length payload) (length bytes) (omega (arith, long)))
 
 -- the blocks that are there once the fragment's are marked
 pub marked : (f : Fragment) (words words′ : List ℕ) → endOf f ≤ 65515 → length words ≡ 128 → Marked (firstBlock f) (stopBlock f) words words′
@@ -39,5 +38,5 @@ unfolding blocksOf
 marked f words words′ short size m =
     fun-ext (λ b.
     m .bits b
-    ∙ ap (λ (t : Bool). pick t (having (bit words) (firstBlock f) (stopBlock f) b) (bit words b))
+    ∙ ap (λ (t : Bool). cond t (having (bit words) (firstBlock f) (stopBlock f) b) (bit words b))
     (le-leb (stopBlock f) (length words * 64) (omega (arith, short, size))))

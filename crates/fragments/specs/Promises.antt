@@ -5,9 +5,9 @@ use mathlib.Core.List.{List, []}
 use lib.Dec.{leb}
 use lib.ListN.{length, take, replicate}
 use Rattle.blocks.specs.Bitmap.{bit, Marked}
-use Rattle.fields.specs.Bytes.{part}
-use Rattle.frames.specs.Buffer.{put}
-use Rattle.frames.specs.Pick.{pick}
+use Rattle.base.specs.Bytes.{part}
+use Rattle.base.specs.Buffer.{put}
+use mathlib.Core.Bool.{cond}
 use Rattle.fragments.specs.Answer.{released, refused, paper}
 use Rattle.fragments.specs.Rfc791.{packetOf}
 use Rattle.fragments.specs.Rules.{ofSize, ruling, settled, outcomeOf, firstBlock, stopBlock}
@@ -58,7 +58,7 @@ wholePayload frame (Part f) = []
 
 -- the payload of a complete one, in the store; a state that tells more bytes than are lent hands out none
 unfoldable pub storedPayload : (bytes : List ℕ) → State → List ℕ
-storedPayload bytes (Complete datagram n) = pick (leb n (length bytes)) (take n bytes) []
+storedPayload bytes (Complete datagram n) = cond (leb n (length bytes)) (take n bytes) []
 storedPayload bytes Empty = []
 storedPayload bytes (Filling datagram end) = []
 
@@ -75,6 +75,6 @@ payloadOf Answer.WrongEnd state frame bytes = []
 
 -- "a release at any time empties the store for the next, or gets 10 where it is lent at another size": no bit is left
 pub record Releases (state : State) (bytes words words′ : List ℕ) (taken : Taken) : Type 0 where
-  pub answers : paper (taken .answer) ≡ pick (ofSize (length bytes) (length words)) released (refused 10)
-  pub next : taken .state ≡ pick (ofSize (length bytes) (length words)) Empty state
-  pub bits : words′ ≡ pick (ofSize (length bytes) (length words)) (replicate 128 0) words
+  pub answers : paper (taken .answer) ≡ cond (ofSize (length bytes) (length words)) released (refused 10)
+  pub next : taken .state ≡ cond (ofSize (length bytes) (length words)) Empty state
+  pub bits : words′ ≡ cond (ofSize (length bytes) (length words)) (replicate 128 0) words

@@ -1,15 +1,14 @@
 -- Fragments on the wire: RFC 791, section 3.1 (flags and fragment offset) and 3.2 ("Fragmentation and Reassembly"), as document 02 condenses
 -- them (request 4/13).
 use Prim.Native.Nat.{ℕ, _+_, _-_, _*_, _/_, _%_}
-use mathlib.Core.Bool.{Bool, _&&_, _||_, not}
+use mathlib.Core.Bool.{Bool, _&&_, _||_, not, cond}
 use mathlib.Core.List.{List}
 use lib.Dec.{eqb, leb}
 use lib.ListN.{length, take}
 use Rattle.sums.specs.Rfc1071.{total, fold}
-use Rattle.fields.specs.Bytes.{u32At}
-use Rattle.fields.specs.Rfc791.{version, headerLength, totalLength, identification, flagsAndOffset, protocolOf}
-use Rattle.fields.specs.Rfc894.{body, typeOf}
-use Rattle.frames.specs.Pick.{pick}
+use Rattle.base.specs.Bytes.{u32At}
+use Rattle.wire.specs.Rfc791.{version, headerLength, totalLength, identification, moreFragments, fragmentOffset, protocolOf}
+use Rattle.wire.specs.Rfc894.{body, typeOf}
 use Rattle.fragments.specs.declared.answer.Datagram.{Datagram}
 use Rattle.fragments.specs.declared.packet.Fragment.{Fragment}
 use Rattle.fragments.specs.declared.packet.Packet.{Packet}
@@ -27,14 +26,6 @@ soundHeader packet =
 -- and "a frame under 34 bytes or not of type 0x0800" is none
 unfoldable pub sound : (frame : List ℕ) → Bool
 sound frame = leb 34 (length frame) && (eqb (typeOf frame) 0x0800 && soundHeader (body frame))
-
--- section 3.1, flags: "Bit 2: (MF) 0 = Last Fragment, 1 = More Fragments"
-unfoldable pub moreFragments : (packet : List ℕ) → Bool
-moreFragments packet = eqb (flagsAndOffset packet / 8192 % 2) 1
-
--- section 3.1: "The fragment offset is measured in units of 8 octets (64 bits)."
-unfoldable pub fragmentOffset : (packet : List ℕ) → ℕ
-fragmentOffset packet = flagsAndOffset packet % 8192 * 8
 
 -- section 3.2: a datagram is whole where more-fragments and offset are both zero
 unfoldable pub isWhole : (packet : List ℕ) → Bool
@@ -72,8 +63,8 @@ fragmentOf packet =
 -- What a frame is: unfit ("unsound header, bad length or payload past 65,515"), a whole datagram, or a part of one.
 unfoldable pub packetOf : (frame : List ℕ) → Packet
 packetOf frame =
-    pick (not (sound frame)) Unfit
-    (pick (isWhole (body frame)) (Whole (14 + headerLength (body frame)) (payloadLength (body frame)))
-    (pick (not (goodLength (moreFragments (body frame)) (payloadLength (body frame)))) Unfit
-    (pick (not (leb (fragmentOffset (body frame) + payloadLength (body frame)) 65515)) Unfit
+    cond (not (sound frame)) Unfit
+    (cond (isWhole (body frame)) (Whole (14 + headerLength (body frame)) (payloadLength (body frame)))
+    (cond (not (goodLength (moreFragments (body frame)) (payloadLength (body frame)))) Unfit
+    (cond (not (leb (fragmentOffset (body frame) + payloadLength (body frame)) 65515)) Unfit
     (Part (fragmentOf (body frame))))))

@@ -1,11 +1,10 @@
 -- Document 02's rules of the store (request 4/13): the order of refusals, what is stored, and when a datagram is complete.
 use Prim.Native.Nat.{ℕ, _+_, _-_, _*_, _/_}
-use mathlib.Core.Bool.{Bool, true, false, _&&_, _||_, not}
+use mathlib.Core.Bool.{Bool, true, false, _&&_, _||_, not, cond}
 use mathlib.Core.List.{List}
 use lib.Dec.{eqb, ltb}
 use lib.ListN.{length}
 use Rattle.blocks.specs.Bitmap.{bit, count, having}
-use Rattle.frames.specs.Pick.{pick}
 use Rattle.fragments.specs.Answer.{Said, passed, stored, complete, paper}
 use Rattle.fragments.specs.Rfc791.{packetOf}
 use Rattle.fragments.specs.declared.answer.Answer.{Answer}
@@ -66,14 +65,14 @@ wrongEnd f Unknown there = f .last && not (eqb (count there (stopBlock f) (128 *
 
 -- the end once a fragment has come: a last one tells it
 unfoldable pub endWith : Fragment → End → End
-endWith f end = pick (f .last) (At (endOf f)) end
+endWith f end = cond (f .last) (At (endOf f)) end
 
 -- what is to be done with a fit fragment: "for fragments only, 11 .. 12 .. 13"
 unfoldable pub partRuling : State → (there : ℕ → ℕ) → Fragment → Ruling
 partRuling state there f =
-    pick (isHeld state (f .datagram)) (Refuse Answer.Held)
-    (pick (overlaps f there) (Refuse Answer.Overlap)
-    (pick (wrongEnd f (knownEnd state) there) (Refuse Answer.WrongEnd)
+    cond (isHeld state (f .datagram)) (Refuse Answer.Held)
+    (cond (overlaps f there) (Refuse Answer.Overlap)
+    (cond (wrongEnd f (knownEnd state) there) (Refuse Answer.WrongEnd)
     (Store f (endWith f (knownEnd state)))))
 
 -- "A frame with no fragmentation passes by without touching the store"
@@ -85,7 +84,7 @@ packetRuling state there (Part f) = partRuling state there f
 -- "Refusals, in this order .. 10 a store lent at another size, a frame .."
 unfoldable pub ruling : State → (frame : List ℕ) (bytes : ℕ) (words : List ℕ) → Ruling
 ruling state frame bytes words =
-    pick (not (ofSize bytes (length words))) (Refuse Answer.Unfit)
+    cond (not (ofSize bytes (length words))) (Refuse Answer.Unfit)
     (packetRuling state (bit words) (packetOf frame))
 
 -- What is to come of a call: what it says, and the state.
@@ -97,7 +96,7 @@ pub record Outcome : Type 0 where
 unfoldable pub settled : Datagram → End → (there : ℕ → ℕ) → Outcome
 settled d Unknown there = record { said = stored; state = Filling d Unknown }
 settled d (At end) there =
-    pick (eqb (count there 0 (blocksOf end)) (blocksOf end)) (record { said = complete; state = Complete d end })
+    cond (eqb (count there 0 (blocksOf end)) (blocksOf end)) (record { said = complete; state = Complete d end })
     (record { said = stored; state = Filling d (At end) })
 
 -- what comes of a ruling

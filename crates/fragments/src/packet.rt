@@ -1,14 +1,15 @@
 // A frame as reassembly sees it: RFC 791, sections 3.1 and 3.2, as document 02 condenses them.
 ghost use mathlib.Core.Path.{_≡_};
 ghost use Prim.Native.Nat.{_≤_};
-ghost use Rattle.fields.specs.Rfc791.{headerLength};
-ghost use Rattle.fragments.specs.Rfc791.{sound, soundHeader, packetOf, isWhole, goodLength, datagramOf, moreFragments, fragmentOffset};
+ghost use Rattle.wire.specs.Rfc791.{headerLength};
+ghost use Rattle.fragments.specs.Rfc791.{sound, soundHeader, packetOf, isWhole, goodLength, datagramOf};
+ghost use Rattle.wire.specs.Rfc791.{moreFragments, fragmentOffset};
 use crate::answer::Datagram;
-use fields::byte_at;
-use fields::eth_type;
-use fields::u16be;
-use fields::u32be;
 use sums::sum;
+use wire::bytes::byte_at;
+use wire::bytes::u16be;
+use wire::bytes::u32be;
+use wire::ethernet::eth_type;
 
 const ETHERNET_HEADER: usize = 14;
 

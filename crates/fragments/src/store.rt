@@ -4,7 +4,7 @@ ghost use Prim.Native.Nat.{_+_, _≤_};
 ghost use mathlib.Core.List.{[]};
 ghost use lib.Dec.{leb};
 ghost use lib.ListN.{length, take};
-ghost use Rattle.frames.specs.Pick.{pick};
+ghost use mathlib.Core.Bool.{cond};
 ghost use Rattle.blocks.specs.Bitmap.{bit, having};
 ghost use Rattle.fragments.specs.Rfc791.{packetOf};
 ghost use Rattle.fragments.specs.Rules.{endOf, firstBlock, stopBlock};
@@ -22,7 +22,7 @@ use crate::ruling::Ruling;
 use crate::ruling::blocks_of;
 use crate::ruling::is_of_size;
 use crate::ruling::rule;
-use frames::put;
+use base::put;
 
 // Takes a guest's frame into its store.
 pub fn take(state: State, frame: &[u8], bytes: &mut [u8], bits: &mut [u64]) -> Taken
@@ -139,7 +139,7 @@ fn of_store(state: State, bytes: &[u8]) -> &[u8]
 
 // The first `n` bytes; none where there are fewer.
 fn first(bytes: &[u8], n: usize) -> &[u8]
-    ensures { λ r. ⌜ now r ≡ pick (leb n (length (now (bytes .entry)))) (take n (now (bytes .entry))) [] ⌝ }
+    ensures { λ r. ⌜ now r ≡ cond (leb n (length (now (bytes .entry)))) (take n (now (bytes .entry))) [] ⌝ }
 {
     if bytes.len() < n {
         return &bytes[..0];

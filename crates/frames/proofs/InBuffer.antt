@@ -1,38 +1,21 @@
--- What the three calls leave in the buffer where they answer 1 with n: the first n bytes are the frame or datagram, of length n, and the others are as they were.
+-- The frame or datagram that the three calls leave in the buffer where they answer 1.
 use Prim.Native.Nat.{ℕ, _+_, _≤_}
 use mathlib.Core.Path.{_≡_, ap, sym, _∙_}
 use mathlib.Core.List.{List, [], _∷_}
 use native.Mathlib.Omega.{arith}
 use lib.ListN.{length, take, drop, length-take, length-drop}
-use lib.Seq.{take-at, drop-at}
-use Rattle.fields.specs.Bytes.{part}
+use Rattle.base.specs.Bytes.{part}
 use Rattle.sums.specs.Rfc1071.{SumsRight}
-use Rattle.frames.specs.Answer.{paper, Wrote, Meets, building, spending}
+use Rattle.record.specs.Answer.{paper, Wrote, Meets, building, spending}
 use Rattle.frames.specs.Builders.{makeIpFrame, makeIpFrameInPlace, makeUdpPayload}
-use Rattle.frames.specs.Rfc768.{datagram}
-use Rattle.frames.specs.Rfc791.{ipFrame}
-use Rattle.frames.specs.declared.answer.Guest.{Guest}
-use Rattle.frames.specs.declared.answer.Answer.{Answer}
-use Rattle.frames.specs.declared.answer.Verdict.{Verdict}
-use Rattle.frames.proofs.Changes.{on-one, on-five}
+use Rattle.wire.specs.Rfc768.{datagram}
+use Rattle.frames.specs.Frames.{ipFrame}
+use Rattle.record.specs.declared.guest.Guest.{Guest}
+use Rattle.record.specs.declared.answer.Answer.{Answer}
+use Rattle.record.specs.declared.answer.Verdict.{Verdict}
+use Rattle.record.proofs.InBuffer.{InBuffer, in-buffer}
 use Rattle.frames.proofs.Lengths.{length-ipFrame, length-datagram}
 use Rattle.frames.proofs.SumsRight.{frame-header-sums-right}
-
-pub record InBuffer (built before after : List ℕ) (n : ℕ) : Type 0 where
-  pub long : n ≡ length built
-  pub front : take n after ≡ built
-  pub rest : drop n after ≡ drop n before
-
-pub in-buffer : (limit len need room : ℕ) (image before after : List ℕ) (v : Verdict) (n : ℕ) → (need ≤ room → length image ≡ need)
-    → Wrote (building limit len need room image) before after v → paper v ≡ 1 ∷ n ∷ [] → InBuffer image before after n
-in-buffer limit len need room image before after v n e w p =
-    let c = on-one limit len need room image before after v w n p in
-    let k : n ≡ length image = c .2 ∙ sym (e (c .1)) in
-    record {
-      long = k;
-      front = ap (take n) (c .3) ∙ take-at image _ n (sym k);
-      rest = ap (drop n) (c .3) ∙ drop-at image _ n (sym k) ∙ ap (λ (m : ℕ). drop m before) (sym k);
-    }
 
 module _ (guest : Guest) (before after : List ℕ) (a : Answer) (n : ℕ) (one : paper (a .verdict) ≡ 1 ∷ n ∷ []) where
   module _ (mac source target : List ℕ) (protocol : ℕ) (six : length mac ≡ 6) (four : length source ≡ 4) (four′ : length target ≡ 4) where
@@ -63,10 +46,3 @@ pub datagram-in-buffer : (before after : List ℕ) (v : Verdict) (n source targe
     → Wrote (makeUdpPayload source target d (length before)) before after v → InBuffer (datagram source target d) before after n
 datagram-in-buffer before after v n source target d one w =
     in-buffer 65527 (length d) (8 + length d) (length before) (datagram source target d) before after v n (λ h. length-datagram source target d) w one
-
--- the bytes needed of 5 are the n of the same call with room, whatever the two buffers
-pub needed-is-n : (limit len need room room′ : ℕ) (image image′ before after before′ after′ : List ℕ) (v v′ : Verdict) (k n : ℕ)
-    → Wrote (building limit len need room image) before after v → paper v ≡ 5 ∷ k ∷ []
-    → Wrote (building limit len need room′ image′) before′ after′ v′ → paper v′ ≡ 1 ∷ n ∷ [] → k ≡ n
-needed-is-n limit len need room room′ image image′ before after before′ after′ v v′ k n w five w′ one =
-    on-five limit len need room image before after v w k five .2 ∙ sym (on-one limit len need room′ image′ before′ after′ v′ w′ n one .2)

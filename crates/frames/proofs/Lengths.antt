@@ -5,10 +5,11 @@ use mathlib.Core.List.{List, _++_, append-assoc}
 use native.Mathlib.Omega.{arith}
 use lib.ListN.{length, drop, length-append}
 use lib.Seq.{drop-at, drop-drop}
-use Rattle.frames.specs.Rfc894.{ethernet}
-use Rattle.frames.specs.Rfc768.{datagram}
-use Rattle.frames.specs.Rfc791.{header, headerWith, ipFrame}
-use Rattle.frames.specs.Network.{gatewayMac}
+use Rattle.wire.specs.Rfc894.{ethernet}
+use Rattle.wire.specs.Rfc768.{datagram}
+use Rattle.wire.specs.Rfc791.{header, headerWith}
+use Rattle.frames.specs.Frames.{headers, ipFrame}
+use Rattle.record.specs.Network.{gatewayMac}
 
 pub length-ethernet : (mac : List ℕ) (type : ℕ) → length mac ≡ 6 → length (ethernet mac gatewayMac type) ≡ 14
 length-ethernet mac type h = simp length-append (omega arith)
@@ -21,6 +22,9 @@ module _ (source target : List ℕ) (four : length source ≡ 4) (four′ : leng
   pub length-header : (total id protocol : ℕ) → length (header total id protocol source target) ≡ 20
   unfolding header
   length-header total id protocol = length-headerWith _ total id protocol
+
+  pub length-headers : (mac : List ℕ) (total id protocol : ℕ) → length mac ≡ 6 → length (headers mac total id protocol source target) ≡ 34
+  length-headers mac total id protocol h = simp length-append (omega (arith, length-ethernet mac 0x0800 h, length-header total id protocol))
 
   pub length-ipFrame : (mac payload : List ℕ) (id protocol : ℕ) → length mac ≡ 6
       → length (ipFrame mac id protocol source target payload) ≡ 34 + length payload

@@ -1,11 +1,6 @@
-pub mod Lists
-pub mod Built
 pub mod Lengths
 pub mod Framed
-pub mod OneAnswer
-pub mod Changes
 pub mod SumsRight
 pub mod ReadBack
-pub mod Addresses
 pub mod InBuffer
-pub mod Fitting
+pub mod OneAnswer

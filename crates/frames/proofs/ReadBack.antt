@@ -4,14 +4,15 @@ use mathlib.Core.Path.{_≡_, refl}
 use mathlib.Core.List.{List, _++_}
 use native.Mathlib.Omega.{arith}
 use lib.ListN.{length}
-use Rattle.fields.specs.Rfc894.{targetMac, sourceMac, typeOf, body}
-use Rattle.frames.specs.Network.{gatewayMac}
-use Rattle.frames.specs.Rfc768.{datagram}
-use Rattle.fields.specs.Rfc791.{version, headerLength, serviceType, totalLength, identification, flagsAndOffset, timeToLive, protocolOf, headerChecksum, sourceOf, targetOf}
-use Rattle.fields.specs.Rfc768 as Udp
+use Rattle.wire.specs.Rfc894.{targetMac, sourceMac, typeOf, body}
+use Rattle.record.specs.Network.{gatewayMac}
+use Rattle.wire.specs.Rfc768.{datagram}
+use Rattle.wire.specs.Rfc791.{version, headerLength, serviceType, totalLength, identification, flagsAndOffset, timeToLive, protocolOf, headerChecksum, sourceOf, targetOf}
+use Rattle.wire.specs.Rfc768 as Udp
 use Rattle.sums.specs.Rfc1071.{checksum}
-use Rattle.frames.specs.Rfc791.{header, headerWith, ipFrame}
-use Rattle.frames.proofs.Lists.{all-bytes}
+use Rattle.wire.specs.Rfc791.{header, headerWith}
+use Rattle.frames.specs.Frames.{ipFrame}
+use Rattle.base.proofs.Lists.{all-bytes}
 use Rattle.frames.proofs.Lengths.{drop-14}
 
 -- RFC 791, section 3.1, with document 01's values

@@ -5,10 +5,11 @@ use mathlib.Core.List.{List}
 use native.Mathlib.Omega.{arith}
 use lib.ListN.{length}
 use lib.Seq.{take-at}
-use Rattle.fields.specs.Bytes.{part}
+use Rattle.base.specs.Bytes.{part}
 use Rattle.sums.specs.Rfc1071.{words, sum, total, fold, checksum, SumsRight}
-use Rattle.frames.specs.Rfc791.{headerWith, header, ipFrame}
-use Rattle.frames.proofs.Lists.{all-bytes}
+use Rattle.wire.specs.Rfc791.{headerWith, header}
+use Rattle.frames.specs.Frames.{ipFrame}
+use Rattle.base.proofs.Lists.{all-bytes}
 use Rattle.sums.proofs.Laws.{fold-zero, fold-pos}
 use Rattle.frames.proofs.Lengths.{length-header, drop-14}
 

@@ -2,11 +2,11 @@
 use Prim.Native.Nat.{ℕ, _+_}
 use mathlib.Core.List.{List}
 use lib.ListN.{length}
-use Rattle.frames.specs.Answer.{Writing, Outcome, building, spending}
-use Rattle.fields.specs.Bytes.{part}
-use Rattle.frames.specs.Rfc768.{datagram}
-use Rattle.frames.specs.Rfc791.{ipFrame}
-use Rattle.frames.specs.declared.answer.Guest.{Guest}
+use Rattle.record.specs.Answer.{Writing, Outcome, building, spending}
+use Rattle.base.specs.Bytes.{part}
+use Rattle.wire.specs.Rfc768.{datagram}
+use Rattle.frames.specs.Frames.{ipFrame}
+use Rattle.record.specs.declared.guest.Guest.{Guest}
 
 -- IPv4: "Payload over 65,515: 6"
 abbrev pub makeIpFrame : Guest → (mac source target : List ℕ) (protocol : ℕ) (payload : List ℕ) (room : ℕ) → Outcome

@@ -1,8 +1,2 @@
-pub mod Pick
-pub mod Buffer
-pub mod Rfc894
-pub mod Rfc791
-pub mod Rfc768
-pub mod Network
-pub mod Answer
+pub mod Frames
 pub mod Builders

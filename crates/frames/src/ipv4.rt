@@ -1,26 +1,26 @@
 // IPv4 packets in Ethernet frames.
 ghost use mathlib.Core.Path.{_≡_};
-ghost use Prim.Native.Nat.{_≤_};
 ghost use lib.ListN.{length};
-ghost use Rattle.frames.specs.Answer.{Meets};
+ghost use Rattle.base.specs.Buffer.{putIfFits};
+ghost use Rattle.record.specs.Answer.{Meets};
 ghost use Rattle.frames.specs.Builders.{makeIpFrame, makeIpFrameInPlace};
-ghost use Rattle.frames.specs.Rfc894.{ethernet};
-ghost use Rattle.frames.specs.Network.{gatewayMac};
-ghost use Rattle.frames.specs.Rfc791.{headerWith, header as Rfc791·header};
-use crate::answer::Answer;
-use crate::answer::Guest;
-use crate::answer::Verdict;
-use crate::network::GATEWAY_MAC;
-use crate::write::put;
+ghost use Rattle.wire.specs.Rfc894.{ethernet};
+ghost use Rattle.record.specs.Network.{gatewayMac};
+ghost use Rattle.frames.specs.Frames.{headers};
+ghost use Rattle.wire.specs.Rfc791.{headerWith, header as Rfc791·header};
+use base::put;
+use record::Answer;
+use record::GATEWAY_MAC;
+use record::Guest;
+use record::Verdict;
 use sums::checksum;
+use wire::ethernet;
+use wire::ipv4::HEADER;
+use wire::ipv4::PAYLOAD_LIMIT;
 
-const HEADER_AT: usize = 14;
-
-const HEADER: usize = 20;
+const HEADER_AT: usize = ethernet::HEADER;
 
 const PAYLOAD_AT: usize = HEADER_AT + HEADER;
-
-const PAYLOAD_LIMIT: usize = 65515;
 
 // A frame around `payload`, to `dst_mac` from the gateway.
 pub fn make_ip_frame(
@@ -38,10 +38,10 @@ pub fn make_ip_frame(
 {
     let len = payload.len();
     if PAYLOAD_LIMIT < len {
-        return guest.refused(Verdict::TooLong(len));
+        return guest.answer(Verdict::TooLong(len));
     }
     if out.len() < PAYLOAD_AT + len {
-        return guest.refused(Verdict::NoRoom(PAYLOAD_AT + len));
+        return guest.answer(Verdict::NoRoom(PAYLOAD_AT + len));
     }
     put(out, PAYLOAD_AT, payload);
     make_ip_frame_in_place(guest, dst_mac, src_ip, dst_ip, proto, len, out)
@@ -62,16 +62,42 @@ pub fn make_ip_frame_in_place(
         (now (out .entry)) (now (out .exit)) r ⌝ }
 {
     if PAYLOAD_LIMIT < len {
-        return guest.refused(Verdict::TooLong(len));
+        return guest.answer(Verdict::TooLong(len));
     }
     if out.len() < PAYLOAD_AT + len {
-        return guest.refused(Verdict::NoRoom(PAYLOAD_AT + len));
+        return guest.answer(Verdict::NoRoom(PAYLOAD_AT + len));
+    }
+    put_headers(
+        dst_mac,
+        guest.id,
+        src_ip,
+        dst_ip,
+        proto,
+        (HEADER + len) as u16,
+        out,
+    );
+    guest.spend().answer(Verdict::Reply(PAYLOAD_AT + len))
+}
+
+// The headers of a packet of `total` bytes, at the front of `out`; where they do not fit, nothing is written.
+pub fn put_headers(
+    dst_mac: [u8; 6],
+    id: u16,
+    src_ip: [u8; 4],
+    dst_ip: [u8; 4],
+    proto: u8,
+    total: u16,
+    out: &mut [u8],
+)
+    ensures { λ _. ⌜ now (out .exit) ≡ putIfFits 0 (headers «dst_mac» total id proto «src_ip» «dst_ip») (now (out .entry)) ⌝ }
+{
+    if out.len() < PAYLOAD_AT {
+        return;
     }
     let ethernet = ethernet_header(dst_mac);
-    let ip = header(HEADER + len, guest.id, proto, src_ip, dst_ip);
+    let ip = header(total, id, proto, src_ip, dst_ip);
     put(out, 0, &ethernet);
     put(out, HEADER_AT, &ip);
-    guest.replied(PAYLOAD_AT + len)
 }
 
 fn ethernet_header(mac: [u8; 6]) -> [u8; 14]
@@ -95,12 +121,11 @@ fn ethernet_header(mac: [u8; 6]) -> [u8; 14]
     ]
 }
 
-fn header(total: usize, id: u16, proto: u8, src_ip: [u8; 4], dst_ip: [u8; 4]) -> [u8; 20]
-    requires { ⌜ total ≤ 65535 ⌝ }
+fn header(total: u16, id: u16, proto: u8, src_ip: [u8; 4], dst_ip: [u8; 4]) -> [u8; 20]
     ensures { λ r. ⌜ r ≡ Rfc791·header total id proto «src_ip» «dst_ip» ⌝ }
 {
-    let blank = header_with(0, total as u16, id, proto, src_ip, dst_ip);
-    header_with(checksum(&blank), total as u16, id, proto, src_ip, dst_ip)
+    let blank = header_with(0, total, id, proto, src_ip, dst_ip);
+    header_with(checksum(&blank), total, id, proto, src_ip, dst_ip)
 }
 
 fn header_with(

@@ -1,15 +1,13 @@
 // UDP datagrams.
 ghost use mathlib.Core.Path.{_≡_};
 ghost use lib.ListN.{length};
-ghost use Rattle.frames.specs.Answer.{Wrote};
+ghost use Rattle.record.specs.Answer.{Wrote};
 ghost use Rattle.frames.specs.Builders.{makeUdpPayload};
-ghost use Rattle.frames.specs.Rfc768.{datagramHeader, pseudoHeader};
-use crate::answer::Verdict;
-use crate::write::put;
-
-const HEADER: usize = 8;
-
-const DATA_LIMIT: usize = 65527;
+ghost use Rattle.wire.specs.Rfc768.{datagramHeader};
+use base::put;
+use record::Verdict;
+use wire::udp::DATA_LIMIT;
+use wire::udp::HEADER;
 
 // A datagram around `data`, with no checksum: its field is 0.
 pub fn make_udp_payload(src_port: u16, dst_port: u16, data: &[u8], out: &mut [u8]) -> Verdict
@@ -30,27 +28,8 @@ pub fn make_udp_payload(src_port: u16, dst_port: u16, data: &[u8], out: &mut [u8
     Verdict::Reply(HEADER + len)
 }
 
-// What UDP and TCP sum before the segment: both addresses, the protocol and the segment's length.
-pub fn pseudo_header(src_ip: [u8; 4], dst_ip: [u8; 4], proto: u8, len: u16) -> [u8; 12]
-    ensures { λ r. ⌜ r ≡ pseudoHeader «src_ip» «dst_ip» proto len ⌝ }
-{
-    [
-        src_ip[0],
-        src_ip[1],
-        src_ip[2],
-        src_ip[3],
-        dst_ip[0],
-        dst_ip[1],
-        dst_ip[2],
-        dst_ip[3],
-        0,
-        proto,
-        (len / 256) as u8,
-        (len % 256) as u8,
-    ]
-}
-
-fn udp_header(src_port: u16, dst_port: u16, len: u16) -> [u8; 8]
+// Its header, where it has `len` bytes.
+pub fn udp_header(src_port: u16, dst_port: u16, len: u16) -> [u8; 8]
     ensures { λ r. ⌜ r ≡ datagramHeader «src_port» «dst_port» len ⌝ }
 {
     [

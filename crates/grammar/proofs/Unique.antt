@@ -8,7 +8,7 @@ use native.Mathlib.Nat.{lt-irrefl, not-suc-le-zero}
 use lib.Dec.{eqb}
 use lib.ListN.{length, drop, replicate, length-replicate}
 use borrow.Author.Tests.{eqb-false}
-use Rattle.fields.specs.Bytes.{u16At}
+use Rattle.base.specs.Bytes.{u16At}
 use Rattle.grammar.specs.Grammar.{Layer, pad, option, ItemList, END, item, IsList, Derivation, arp, otherIPv4, icmp, udp, dhcp, tcp, body, protocol, dataOffset, Ethernet, ARP, IPv4, OtherIPv4, CarriesDHCP, ethernetLayer, ipLayer, payloadLayer, dataAt, messageLayer, Derives}
 use Rattle.grammar.proofs.Items.{Starts, ends, pads, opts, starts, list-nil, head-same, tail-same}
 

@@ -8,7 +8,7 @@ use mathlib.Core.Logic.{_⊎_}
 use mathlib.Core.List.{List, [], _∷_, _++_}
 use lib.Dec.{eqb}
 use lib.ListN.{length, take, drop, replicate}
-use Rattle.fields.specs.Bytes.{be16, u8At, u16At, u32At, part}
+use Rattle.base.specs.Bytes.{be16, u8At, u16At, u32At, part}
 use Rattle.sums.specs.Rfc1071.{SumsRight}
 
 -- DERIVATIONS: "A derivation holds the kind (ARP, ICMP, UDP, DHCP, TCP or other IPv4), where each header and payload starts and stops, and for DHCP the items of each list in order,

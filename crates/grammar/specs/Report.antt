@@ -3,7 +3,7 @@
 use Prim.Native.Nat.{ℕ, _+_}
 use mathlib.Core.Path.{_≡_}
 use mathlib.Core.List.{List, [], _∷_}
-use Rattle.fields.specs.Bytes.{u8At}
+use Rattle.base.specs.Bytes.{u8At}
 use Rattle.grammar.specs.Grammar.{Layer, Item, pad, option, Derivation, arp, icmp, udp, dhcp, tcp, otherIPv4, options53, Derives}
 
 pub data Kind : Type 0 where

@@ -7,8 +7,8 @@ use native.Mathlib.Numerals.{add-one}
 use native.Mathlib.Omega.{arith}
 use lib.ListN.{length, take, getD, length-append, take-append-drop}
 use lib.Seq.{take-suc}
-use Rattle.frames.specs.Buffer.{put}
-use Rattle.frames.proofs.Lists.{put-put}
+use Rattle.base.specs.Buffer.{put}
+use Rattle.base.proofs.Lists.{put-put}
 use Rattle.io.specs.Digits.{glyph}
 use Rattle.gwone.specs.Text.{Added, ascii, decimal, hex}
 use Rattle.gwone.specs.Printed.{spaced}

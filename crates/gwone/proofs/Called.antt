@@ -4,10 +4,11 @@ use mathlib.Core.Path.{_≡_, sym, ap₂}
 use mathlib.Core.List.{List}
 use lib.ListN.{length, take, length-replicate}
 use lib.Seq.{length-take-le}
-use Rattle.frames.specs.Answer.{Meets, fresh, paper}
-use Rattle.frames.specs.Network.{network}
-use Rattle.frames.specs.declared.answer.Answer.{Answer}
-use Rattle.frames.specs.declared.answer.Guest.{Guest}
+use Rattle.record.specs.Answer.{Meets, paper}
+use Rattle.record.specs.Guest.{fresh}
+use Rattle.record.specs.Network.{network}
+use Rattle.record.specs.declared.answer.Answer.{Answer}
+use Rattle.record.specs.declared.guest.Guest.{Guest}
 use Rattle.rules.specs.Rules.{outcome}
 use Rattle.gwone.specs.Printed.{answerText, outcomeText, guestMac, room}
 

@@ -2,12 +2,11 @@
 use Prim.Native.Nat.{ℕ, zero, suc, _+_, _/_, _%_, _^_, _-_, _≤_, _<_}
 use mathlib.Core.Path.{_≡_, refl, ap, subst, _∙_}
 use mathlib.Core.List.{List, [], _∷_, _++_}
-use mathlib.Core.Bool.{Bool, true, false}
+use mathlib.Core.Bool.{Bool, true, false, cond}
 use native.Mathlib.Nat.{pow-suc, pow-le-pow-right, mod-eq-of-lt, le-div-iff-mul-le, div-lt-iff-lt-mul, lt-of-not-le}
 use native.Mathlib.Omega.{arith}
 use borrow.Author.Tests.{ltb-true, ltb-false}
 use lib.Dec.{lit<, ltb}
-use Rattle.frames.specs.Pick.{pick}
 use Rattle.io.specs.Digits.{glyph, digits, Fewest}
 use Rattle.gwone.specs.Text.{decimal, decimalWithin}
 
@@ -33,7 +32,7 @@ one-fewer n (suc i) large f = (
 -- the last digit, and in front of it those of the rest
 last-digit : (most n j : ℕ) (small : Bool) → ltb n 10 ≡ small → Fewest 10 1 n (suc j)
     → (10 ≤ n → digits 10 j (n / 10) ≡ decimalWithin most (n / 10))
-    → digits 10 (suc j) n ≡ pick small (glyph n ∷ []) (decimalWithin most (n / 10) ++ (glyph (n % 10) ∷ []))
+    → digits 10 (suc j) n ≡ cond small (glyph n ∷ []) (decimalWithin most (n / 10) ++ (glyph (n % 10) ∷ []))
 last-digit most n j true e f rest = one-digit n (suc j) (ltb-true n 10 e) f
 last-digit most n j false e f rest = ap (λ (l : List ℕ). l ++ (glyph (n % 10) ∷ [])) (rest (ltb-false n 10 e))
 

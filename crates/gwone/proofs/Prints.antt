@@ -5,7 +5,8 @@ use mathlib.Core.List.{List, [], _∷_}
 use borrow.Author.Tests.{lt-ltb}
 use lib.ListN.{length}
 use Rattle.rules.specs.Rfc826.{replyTo}
-use Rattle.rules.specs.Rules.{decision, arpDecision, framing, outcomeOf, outcome}
+use Rattle.rules.specs.Rules.{decision, arpDecision, outcomeOf, outcome}
+use Rattle.record.specs.Answer.{framing}
 use Rattle.gwone.specs.Text.{ascii, decimal, hex}
 use Rattle.gwone.specs.Printed.{line, answerText, printed}
 

@@ -3,20 +3,21 @@ use Prim.Native.Nat.{ℕ}
 use mathlib.Core.List.{List, [], _∷_, _++_}
 use lib.Dec.{eqb, leb, ltb}
 use lib.ListN.{length, getD, take, drop, replicate}
-use Rattle.frames.specs.Answer.{Outcome, fresh}
-use Rattle.frames.specs.Network.{network}
-use Rattle.frames.specs.Pick.{pick}
+use Rattle.record.specs.Answer.{Outcome}
+use Rattle.record.specs.Guest.{fresh}
+use Rattle.record.specs.Network.{network}
+use mathlib.Core.Bool.{cond}
 use Rattle.rules.specs.Rules.{outcome}
 use Rattle.gwone.specs.Text.{ascii, decimal, hex}
 
 -- "It prints a word (`drop`, `reply`, `dns`, `relay`, `tcp`, `refused`)", by the verdict's number
 abbrev pub word : (number : ℕ) → List ℕ
 word number =
-    pick (eqb number 0) (ascii "drop")
-    (pick (eqb number 1) (ascii "reply")
-    (pick (eqb number 2) (ascii "dns")
-    (pick (eqb number 3) (ascii "relay")
-    (pick (eqb number 4) (ascii "tcp")
+    cond (eqb number 0) (ascii "drop")
+    (cond (eqb number 1) (ascii "reply")
+    (cond (eqb number 2) (ascii "dns")
+    (cond (eqb number 3) (ascii "relay")
+    (cond (eqb number 4) (ascii "tcp")
     (ascii "refused")))))
 
 -- each number with a space before it
@@ -27,12 +28,12 @@ spaced (n ∷ rest) = ascii " " ++ decimal n ++ spaced rest
 -- "and its numbers (for `refused`, the verdict number first)"; `numbers` is the verdict's number and its values
 unfoldable pub line : (numbers : List ℕ) → List ℕ
 line [] = []
-line (number ∷ values) = word number ++ spaced (pick (leb number 4) values (number ∷ values)) ++ ascii "\n"
+line (number ∷ values) = word number ++ spaced (cond (leb number 4) values (number ∷ values)) ++ ascii "\n"
 
 -- "then for a reply a hex line", of the first n bytes of the buffer
 unfoldable pub answerText : (numbers buffer : List ℕ) → List ℕ
 answerText numbers buffer =
-    pick (eqb (getD numbers 0 0) 1)
+    cond (eqb (getD numbers 0 0) 1)
     (line numbers ++ hex (take (getD numbers 1 0) buffer) ++ ascii "\n")
     (line numbers)
 
@@ -50,4 +51,4 @@ guestMac = 0x52 ∷ 0x54 ∷ 0x00 ∷ 0x12 ∷ 0x34 ∷ 0x56 ∷ []
 
 -- "it reads one frame from standard input (over 2,048 bytes it prints `input over 2048`), uses .. a fresh record and 2,048 bytes of room"
 unfoldable pub printed : (input : List ℕ) → List ℕ
-printed input = pick (ltb 2048 (length input)) (ascii "input over 2048\n") (outcomeText (outcome network (fresh guestMac) input 2048))
+printed input = cond (ltb 2048 (length input)) (ascii "input over 2048\n") (outcomeText (outcome network (fresh guestMac) input 2048))

@@ -7,8 +7,8 @@ use mathlib.Core.List.{List, [], _∷_, _++_}
 use lib.Dec.{ltb}
 use lib.ListN.{length}
 use Rattle.io.specs.Digits.{glyph}
-use Rattle.frames.specs.Buffer.{put}
-use Rattle.frames.specs.Pick.{pick}
+use Rattle.base.specs.Buffer.{put}
+use mathlib.Core.Bool.{cond}
 
 abbrev pub ascii : String → List ℕ
 ascii empty = []
@@ -17,7 +17,7 @@ ascii (c then s) = code c ∷ ascii s
 -- a number's decimal digits, with no zero in front; `most` only bounds the recursion, and n is bound enough for n
 abbrev pub decimalWithin : (most n : ℕ) → List ℕ
 decimalWithin zero n = glyph n ∷ []
-decimalWithin (suc most) n = pick (ltb n 10) (glyph n ∷ []) (decimalWithin most (n / 10) ++ (glyph (n % 10) ∷ []))
+decimalWithin (suc most) n = cond (ltb n 10) (glyph n ∷ []) (decimalWithin most (n / 10) ++ (glyph (n % 10) ∷ []))
 
 unfoldable pub decimal : (n : ℕ) → List ℕ
 decimal n = decimalWithin n n

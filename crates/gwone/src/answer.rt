@@ -5,14 +5,14 @@ ghost use Prim.Native.Nat.{_≤_};
 ghost use mathlib.Core.List.{[], _∷_, _++_};
 ghost use lib.ListN.{length, take};
 ghost use Rattle.io.specs.Counts.{Counts};
-ghost use Rattle.frames.specs.Answer.{paper};
+ghost use Rattle.record.specs.Answer.{paper};
 ghost use Rattle.gwone.specs.Text.{Added, ascii, hex};
 ghost use Rattle.gwone.specs.Printed.{spaced, answerText, printed, room};
 use crate::text::add;
 use crate::text::add_hex;
 use crate::text::add_number;
-use frames::Guest;
-use frames::Verdict;
+use record::Guest;
+use record::Verdict;
 
 const GUEST_MAC: [u8; 6] = [0x52, 0x54, 0x00, 0x12, 0x34, 0x56];
 

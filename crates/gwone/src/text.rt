@@ -10,7 +10,7 @@ pub fn add(text: &mut [u8], at: usize, piece: &[u8]) -> usize
     requires { ⌜ at + length (now piece) ≤ length (now text) ⌝ }
     ensures { λ r. ⌜ Added at (now (piece .entry)) (now (text .entry)) (now (text .exit)) r ⌝ }
 {
-    frames::put(text, at, piece);
+    base::put(text, at, piece);
     at + piece.len()
 }
 

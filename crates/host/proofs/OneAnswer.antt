@@ -4,14 +4,14 @@ use mathlib.Core.List.{List, [], _∷_}
 use mathlib.Core.Path.{_≡_, refl, ap, sym, _∙_}
 use lib.Dec.{eqb}
 use lib.ListN.{length, drop, getD}
-use Rattle.frames.proofs.OneAnswer.{one-outcome, verdictOf}
-use Rattle.frames.specs.Answer.{Meets, Outcome, Writing, paper}
-use Rattle.frames.specs.Network.{network}
-use Rattle.frames.specs.Pick.{pick}
-use Rattle.frames.specs.declared.answer.Answer.{Answer}
-use Rattle.frames.specs.declared.answer.Guest.{Guest}
-use Rattle.frames.specs.declared.answer.Verdict.{Verdict}
-use Rattle.frames.specs.declared.answer.Verdict.the-variants.{Drop, Reply, Dns, Relay, Tcp, NoRoom, TooLong, CutType}
+use Rattle.record.proofs.OneAnswer.{one-outcome, verdictOf}
+use Rattle.record.specs.Answer.{Meets, Outcome, Writing, paper}
+use Rattle.record.specs.Network.{network}
+use mathlib.Core.Bool.{cond}
+use Rattle.record.specs.declared.answer.Answer.{Answer}
+use Rattle.record.specs.declared.guest.Guest.{Guest}
+use Rattle.record.specs.declared.answer.Verdict.{Verdict}
+use Rattle.record.specs.declared.answer.Verdict.the-variants.{Drop, Reply, Dns, Relay, Tcp, NoRoom, TooLong, CutType}
 use Rattle.grammar.proofs.Exact.{one-report}
 use Rattle.grammar.specs.Grammar.{Layer, laid}
 use Rattle.grammar.specs.Report.{Report, arpKind, icmpKind, udpKind, dhcpKind, tcpKind, otherIPv4Kind, parts, refused}
@@ -45,12 +45,12 @@ layerAt places at = laid (getD places at 0) (getD places (at + 1) 0) (getD place
 -- the report, back from the number and the places
 unfoldable pub reportOf : (number : ℕ) (places : List ℕ) → Report
 reportOf n ps =
-    pick (eqb n 1) (parts arpKind (layerAt ps 0 ∷ []) [])
-    (pick (eqb n 2) (parts icmpKind (layerAt ps 0 ∷ layerAt ps 3 ∷ layerAt ps 6 ∷ []) [])
-    (pick (eqb n 3) (parts udpKind (layerAt ps 0 ∷ layerAt ps 3 ∷ layerAt ps 6 ∷ []) [])
-    (pick (eqb n 4) (parts dhcpKind (layerAt ps 0 ∷ layerAt ps 3 ∷ layerAt ps 6 ∷ layerAt ps 9 ∷ []) (getD ps 12 0 ∷ []))
-    (pick (eqb n 5) (parts tcpKind (layerAt ps 0 ∷ layerAt ps 3 ∷ layerAt ps 6 ∷ []) [])
-    (pick (eqb n 6) (parts otherIPv4Kind (layerAt ps 0 ∷ layerAt ps 3 ∷ []) []) (refused n))))))
+    cond (eqb n 1) (parts arpKind (layerAt ps 0 ∷ []) [])
+    (cond (eqb n 2) (parts icmpKind (layerAt ps 0 ∷ layerAt ps 3 ∷ layerAt ps 6 ∷ []) [])
+    (cond (eqb n 3) (parts udpKind (layerAt ps 0 ∷ layerAt ps 3 ∷ layerAt ps 6 ∷ []) [])
+    (cond (eqb n 4) (parts dhcpKind (layerAt ps 0 ∷ layerAt ps 3 ∷ layerAt ps 6 ∷ layerAt ps 9 ∷ []) (getD ps 12 0 ∷ []))
+    (cond (eqb n 5) (parts tcpKind (layerAt ps 0 ∷ layerAt ps 3 ∷ layerAt ps 6 ∷ []) [])
+    (cond (eqb n 6) (parts otherIPv4Kind (layerAt ps 0 ∷ layerAt ps 3 ∷ []) []) (refused n))))))
 
 -- what `read` answers is there in what C is told of it
 pub report-back : (before : List ℕ) (r : Reading) → reportOf (numberOf (told r)) (placesOf before (told r)) ≡ told r

@@ -4,7 +4,7 @@ use mathlib.Core.List.{List}
 use mathlib.Core.Path.{_≡_, ap, ap₂, sym, _∙_}
 use lib.ListN.{length}
 use Rattle.blocks.specs.Bitmap.{bit}
-use Rattle.frames.specs.Pick.{pick}
+use mathlib.Core.Bool.{cond}
 use Rattle.fragments.specs.Answer.{paper}
 use Rattle.fragments.specs.Rules.{ruling}
 use Rattle.fragments.specs.declared.answer.Taken.{Taken}
@@ -17,7 +17,7 @@ use Rattle.states.specs.Words.{stateOf, wordsOf}
 same-telling : {words words₁ words₂ : List ℕ} {n₁ n₂ : ℕ} {t u : Taken} → t ≡ u → Tells words words₁ t n₁ → Tells words words₂ u n₂ → (n₁ ≡ n₂) × (words₁ ≡ words₂)
 same-telling {words} e s r = (
   s .numbered ∙ ap (λ (x : Taken). numberOf (paper (x .answer))) e ∙ sym (r .numbered),
-  s .written ∙ ap (λ (x : Taken). pick (changes (paper (x .answer))) (wordsOf (x .state)) words) e ∙ sym (r .written),
+  s .written ∙ ap (λ (x : Taken). cond (changes (paper (x .answer))) (wordsOf (x .state)) words) e ∙ sym (r .written),
 )
 
 pub one-taking : (words frame bytes bits words₁ bytes₁ bits₁ place₁ words₂ bytes₂ bits₂ place₂ : List ℕ) (n₁ n₂ : ℕ)

@@ -3,8 +3,8 @@ use Prim.Native.Nat.{ℕ, _≤_}
 use mathlib.Core.List.{List, [], _∷_}
 use mathlib.Core.Path.{_≡_, refl, ap, sym, subst, _∙_}
 use lib.ListN.{length, getD}
-use Rattle.frames.specs.Network.{network}
-use Rattle.frames.specs.declared.answer.Guest.{Guest}
+use Rattle.record.specs.Network.{network}
+use Rattle.record.specs.declared.guest.Guest.{Guest}
 use Rattle.host.specs.Exported.{Sent, padded}
 use Rattle.rules.proofs.Room.{never-five, never-longer}
 use Rattle.rules.specs.Room.{Ample}

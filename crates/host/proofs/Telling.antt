@@ -1,14 +1,14 @@
 -- From what a call of ours promises to what an exported call tells.
 use Prim.Native.Nat.{ℕ}
-use mathlib.Core.Bool.{Bool, true, false}
+use mathlib.Core.Bool.{Bool, true, false, cond}
 use mathlib.Core.List.{List, _∷_}
 use mathlib.Core.Path.{_≡_, sym, ap, _∙_}
 use lib.Dec.{ltb}
-use Rattle.frames.specs.Answer.{Meets, Writing, Wrote, paper, spending, spent}
-use Rattle.frames.specs.Pick.{pick}
-use Rattle.frames.specs.declared.answer.Answer.{Answer}
-use Rattle.frames.specs.declared.answer.Guest.{Guest}
-use Rattle.frames.specs.declared.answer.Verdict.{Verdict}
+use Rattle.record.specs.Answer.{Meets, Writing, Wrote, paper, spending}
+use Rattle.record.specs.Guest.{spent}
+use Rattle.record.specs.declared.answer.Answer.{Answer}
+use Rattle.record.specs.declared.guest.Guest.{Guest}
+use Rattle.record.specs.declared.answer.Verdict.{Verdict}
 use Rattle.grammar.specs.Report.{Reads}
 use Rattle.host.specs.Parts.{Reported, numberOf, placesOf}
 use Rattle.host.specs.Exported.{Built, Told, padded}
@@ -20,7 +20,7 @@ pub told-of : {w : Writing} {before after : List ℕ} {v : Verdict} {number : �
 told-of wrote e = record { numbers = e ∙ ap padded (wrote .numbers); bytes = wrote .bytes }
 
 -- the id afterwards goes by the id before
-id-after : (b d : Bool) (g h : Guest) → h .id ≡ g .id → pick b g (pick d g (spent g)) .id ≡ pick b h (pick d h (spent h)) .id
+id-after : (b d : Bool) (g h : Guest) → h .id ≡ g .id → cond b g (cond d g (spent g)) .id ≡ cond b h (cond d h (spent h)) .id
 id-after true d g h e = sym e
 id-after false true g h e = sym e
 id-after false false g h e = ap (λ (i : ℕ). spent (record { mac = g .mac; id = i; xid = g .xid }) .id) (sym e)

@@ -3,8 +3,8 @@ use Prim.Native.Nat.{ℕ}
 use mathlib.Core.Path.{_≡_}
 use mathlib.Core.List.{List, [], _∷_, _++_}
 use lib.ListN.{length, take, drop}
-use Rattle.frames.specs.Answer.{Writing, Outcome}
-use Rattle.frames.specs.declared.answer.Guest.{Guest}
+use Rattle.record.specs.Answer.{Writing, Outcome}
+use Rattle.record.specs.declared.guest.Guest.{Guest}
 
 -- document 01's number of a verdict and two values, 0 where it has fewer
 unfoldable pub padded : List ℕ → List ℕ

@@ -3,7 +3,7 @@ use Prim.Native.Nat.{ℕ}
 use mathlib.Core.Path.{_≡_}
 use mathlib.Core.List.{List}
 use lib.ListN.{length, getD}
-use Rattle.fields.specs.Bytes.{part}
+use Rattle.base.specs.Bytes.{part}
 use Rattle.fragments.specs.Promises.{Takes, Releases, payloadOf}
 use Rattle.fragments.specs.declared.answer.Taken.{Taken}
 use Rattle.states.specs.Told.{Tells, placeOf, placedIn}

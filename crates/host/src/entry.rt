@@ -1,12 +1,12 @@
 // The thin entry: the record is lent, and the new one is stored.
 ghost use lib.ListN.{length};
-ghost use Rattle.frames.specs.Answer.{Meets};
-ghost use Rattle.frames.specs.Network.{network};
+ghost use Rattle.record.specs.Answer.{Meets};
+ghost use Rattle.record.specs.Network.{network};
 ghost use Rattle.host.specs.Exported.{Sent};
 ghost use Rattle.rules.specs.Rules.{outcome};
 use crate::numbers::numbered;
-use frames::Guest;
-use frames::Verdict;
+use record::Guest;
+use record::Verdict;
 use slirp::handle;
 
 // What a frame of this guest gets. The promise is `handle`'s, of the verdict and of the record as it stands behind

@@ -10,16 +10,19 @@ use lib.Dec.{ltb}
 use lib.ListN.{length, getD, take, drop}
 use lib.Seq.{take-append-seam, drop-append-seam}
 use Rattle.dhcp.proofs.ReadBack.{FourBytes}
-use Rattle.frames.specs.Answer.{paper, Meets, spent}
-use Rattle.frames.specs.Network.{network}
-use Rattle.frames.specs.declared.answer.Answer.{Answer}
-use Rattle.frames.specs.declared.answer.Guest.{Guest}
-use Rattle.frames.specs.declared.answer.Verdict.{Verdict}
-use Rattle.frames.specs.declared.answer.Verdict.the-variants as Verdict
-use Rattle.frames.specs.declared.network.Network.{Network}
-use Rattle.frames.proofs.OneAnswer.{paper-one-to-one}
-use Rattle.rules.specs.Rfc792.{echo}
-use Rattle.rules.specs.Rules.{payloadAt, payload, decision, framing, noting, unwritten, outcome, outcomeOf}
+use Rattle.record.specs.Answer.{paper, Meets}
+use Rattle.record.specs.Guest.{spent}
+use Rattle.record.specs.Network.{network}
+use Rattle.record.specs.declared.answer.Answer.{Answer}
+use Rattle.record.specs.declared.guest.Guest.{Guest}
+use Rattle.record.specs.declared.answer.Verdict.{Verdict}
+use Rattle.record.specs.declared.answer.Verdict.the-variants as Verdict
+use Rattle.record.specs.declared.network.Network.{Network}
+use Rattle.record.proofs.OneAnswer.{paper-one-to-one}
+use Rattle.wire.specs.Rfc792.{echo}
+use Rattle.rules.specs.Rules.{payloadAt, payload, decision, outcome, outcomeOf}
+use Rattle.record.specs.Answer.{framing, unwritten}
+use Rattle.record.specs.Guest.{noting}
 use Rattle.rules.specs.Seen.{Carries, CutMessage, Query, Outbound, EchoAsked, TooLongPing, Segment}
 use Rattle.rules.specs.declared.decision.Decision.{Decision}
 use Rattle.rules.specs.declared.decision.Decision.the-variants.{Drop, DropNoting, ArpReply, EchoReply, DhcpReply, Dns, Relay, Tcp, TooLong, CutType}

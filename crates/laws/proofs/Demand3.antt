@@ -5,15 +5,15 @@ use mathlib.Core.Logic.{_↔_}
 use mathlib.Core.List.{List, [], _∷_}
 use lib.ListN.{length, take, drop}
 use Rattle.dhcp.proofs.ReadBack.{FourBytes, four-bytes}
-use Rattle.fields.specs.Bytes.{part}
-use Rattle.frames.specs.Answer.{paper, Wrote, Meets}
+use Rattle.base.specs.Bytes.{part}
+use Rattle.record.specs.Answer.{paper, Wrote, Meets}
 use Rattle.frames.specs.Builders.{makeIpFrame, makeIpFrameInPlace, makeUdpPayload}
-use Rattle.frames.specs.Network.{network}
-use Rattle.frames.specs.Rfc768.{datagram}
-use Rattle.frames.specs.declared.answer.Answer.{Answer}
-use Rattle.frames.specs.declared.answer.Guest.{Guest}
-use Rattle.frames.specs.declared.answer.Verdict.{Verdict}
-use Rattle.frames.specs.declared.network.Network.{Network}
+use Rattle.record.specs.Network.{network}
+use Rattle.wire.specs.Rfc768.{datagram}
+use Rattle.record.specs.declared.answer.Answer.{Answer}
+use Rattle.record.specs.declared.guest.Guest.{Guest}
+use Rattle.record.specs.declared.answer.Verdict.{Verdict}
+use Rattle.record.specs.declared.network.Network.{Network}
 use Rattle.frames.proofs.InBuffer.{ip-frame-in-buffer, ip-frame-in-place-in-buffer, datagram-in-buffer}
 use Rattle.grammar.specs.Grammar.{Derivation, Derives}
 use Rattle.grammar.specs.Report.{refused, partsOf, Reads}

@@ -5,13 +5,13 @@ use mathlib.Core.Logic.{inl, inr}
 use mathlib.Core.List.{List}
 use native.Mathlib.Omega.{arith}
 use lib.ListN.{length, length-drop}
-use Rattle.frames.specs.Rfc768.{datagram}
-use Rattle.frames.specs.declared.network.Network.{Network}
+use Rattle.wire.specs.Rfc768.{datagram}
+use Rattle.record.specs.declared.network.Network.{Network}
 use Rattle.frames.proofs.Lengths.{length-datagram}
 use Rattle.frames.proofs.ReadBack.{DatagramOf, datagram-reads-back}
 use Rattle.grammar.specs.Grammar.{body, payload, CarriesDHCP, dataOffset, unsummed, UDP, Derives}
 use Rattle.grammar.proofs.Places.{placed}
-use Rattle.rules.specs.Rfc792.{echo}
+use Rattle.wire.specs.Rfc792.{echo}
 use Rattle.rules.specs.Rfc826.{arpReply}
 use Rattle.slirp.proofs.ReadBack.{arp-reads-back, echo-reads-back}
 use Rattle.tcp.specs.Rfc9293.{options, segment, covered}

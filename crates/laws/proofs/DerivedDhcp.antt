@@ -8,11 +8,11 @@ use lib.ListN.{length, getD, drop, replicate}
 use lib.Seq.{drop-drop}
 use Rattle.dhcp.specs.Rfc2131.{reply}
 use Rattle.dhcp.proofs.ReadBack.{FourBytes, reply-reads-back}
-use Rattle.fields.specs.Bytes.{be32, u8At}
-use Rattle.frames.specs.Rfc768.{datagram}
-use Rattle.frames.specs.declared.network.Network.{Network}
+use Rattle.base.specs.Bytes.{be32, u8At}
+use Rattle.wire.specs.Rfc768.{datagram}
+use Rattle.record.specs.declared.network.Network.{Network}
 use Rattle.frames.proofs.Lengths.{length-datagram}
-use Rattle.frames.proofs.Lists.{all-bytes}
+use Rattle.base.proofs.Lists.{all-bytes}
 use Rattle.grammar.specs.Grammar.{body, ItemList, END, item, option, IsList, options53, CarriesDHCP, DHCP, dataAt, Derives}
 use Rattle.grammar.specs.Report.{partsOf}
 use Rattle.grammar.proofs.Places.{placed}

@@ -5,12 +5,13 @@ use mathlib.Core.List.{List, _++_}
 use native.Mathlib.Omega.{arith}
 use lib.ListN.{length, take, drop, length-drop}
 use lib.Seq.{drop-drop, getD-drop}
-use Rattle.fields.specs.Bytes.{u8At, part}
+use Rattle.base.specs.Bytes.{u8At, part}
 use Rattle.frames.specs.Rfc768
-use Rattle.frames.specs.Rfc791.{header, headerWith, ipFrame}
-use Rattle.frames.proofs.InBuffer.{InBuffer}
+use Rattle.wire.specs.Rfc791.{header, headerWith}
+use Rattle.frames.specs.Frames.{ipFrame}
+use Rattle.record.proofs.InBuffer.{InBuffer}
 use Rattle.frames.proofs.Lengths.{drop-14, drop-34, length-ipFrame}
-use Rattle.frames.proofs.Lists.{all-bytes}
+use Rattle.base.proofs.Lists.{all-bytes}
 use Rattle.frames.proofs.ReadBack.{ethernet-reads-back, frame-reads-back}
 use Rattle.frames.proofs.SumsRight.{frame-header-sums-right}
 use Rattle.grammar.specs.Grammar.{Ethernet, body, IPv4, headerLength, protocol, payload, pseudoHeader, laid, ethernetLayer, ipLayer, payloadAt, payloadLayer}

@@ -7,14 +7,14 @@ use native.Mathlib.Omega.{arith}
 use lib.ListN.{length, drop}
 use Rattle.dhcp.specs.Rfc2131.{reply}
 use Rattle.dhcp.proofs.ReadBack.{FourBytes}
-use Rattle.fields.specs.Rfc791.{sourceOf}
-use Rattle.fields.specs.Rfc894.{body, sourceMac}
-use Rattle.frames.specs.Network.{broadcastOf}
-use Rattle.frames.specs.Rfc768.{datagram}
-use Rattle.frames.specs.declared.answer.Guest.{Guest}
-use Rattle.frames.specs.declared.network.Network.{Network}
+use Rattle.wire.specs.Rfc791.{sourceOf}
+use Rattle.wire.specs.Rfc894.{body, sourceMac}
+use Rattle.record.specs.Network.{broadcastOf}
+use Rattle.wire.specs.Rfc768.{datagram}
+use Rattle.record.specs.declared.guest.Guest.{Guest}
+use Rattle.record.specs.declared.network.Network.{Network}
 use Rattle.grammar.specs.Grammar.{Derivation, Derives}
-use Rattle.rules.specs.Rfc792.{echo}
+use Rattle.wire.specs.Rfc792.{echo}
 use Rattle.rules.specs.Rfc2131.{dhcpFrame}
 use Rattle.rules.specs.Rules.{decision}
 use Rattle.rules.specs.declared.decision.Decision.{Decision}

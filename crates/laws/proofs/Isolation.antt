@@ -2,21 +2,20 @@
 -- but its own, and its answer hangs on the record, the frame and the room alone.
 use Prim.Native.Nat.{ℕ}
 use mathlib.Core.Path.{_≡_, refl, ap, ap₂, sym, subst, _∙_}
-use mathlib.Core.Bool.{Bool, true, false}
+use mathlib.Core.Bool.{Bool, true, false, cond}
 use mathlib.Core.List.{List, [], _∷_}
 use native.Mathlib.Omega.{arith}
 use borrow.Author.Tests.{eqb-true}
 use lib.Dec.{eqb}
 use lib.ListN.{length, getD, drop}
 use Rattle.dhcp.proofs.ReadBack.{FourBytes}
-use Rattle.frames.specs.Answer.{Outcome}
-use Rattle.frames.specs.Pick.{pick}
-use Rattle.frames.specs.declared.answer.Answer.{Answer}
-use Rattle.frames.specs.declared.answer.Guest.{Guest}
-use Rattle.frames.specs.declared.answer.Verdict.{Verdict}
-use Rattle.frames.specs.declared.answer.Verdict.the-variants.{Drop, Reply, Dns, Relay, Tcp, NoRoom, TooLong, CutType}
-use Rattle.frames.specs.declared.network.Network.{Network}
-use Rattle.frames.proofs.OneAnswer.{paper-one-to-one}
+use Rattle.record.specs.Answer.{Outcome}
+use Rattle.record.specs.declared.answer.Answer.{Answer}
+use Rattle.record.specs.declared.guest.Guest.{Guest}
+use Rattle.record.specs.declared.answer.Verdict.{Verdict}
+use Rattle.record.specs.declared.answer.Verdict.the-variants.{Drop, Reply, Dns, Relay, Tcp, NoRoom, TooLong, CutType}
+use Rattle.record.specs.declared.network.Network.{Network}
+use Rattle.record.proofs.OneAnswer.{paper-one-to-one}
 use Rattle.rules.specs.Rules.{outcome}
 use Rattle.laws.specs.Host.{Call, Answered, Host, storing, Serves, ServesAlone, callsOf, Asked, asks, sent, Got, gets}
 use Rattle.laws.specs.Table.{replyAtAmpleRoom, Returned, XidAtMost, kept, noted, Changed}
@@ -25,8 +24,8 @@ use Rattle.laws.proofs.Demand1.{only-what-is-named, returned-values}
 -- one call: it is the guest's own and moves its record on, or another's and leaves it
 step : (net : Network) (host : Host) (call : Call) (rest : List Call) (who : ℕ) (guest′ : Guest) (t : Bool) → eqb (call .who) who ≡ t
     → Answered net (host (call .who)) call
-    → ServesAlone net (pick t (call .answer .guest) (host who)) (callsOf who rest) guest′
-    → ServesAlone net (host who) (pick t (call ∷ callsOf who rest) (callsOf who rest)) guest′
+    → ServesAlone net (cond t (call .answer .guest) (host who)) (callsOf who rest) guest′
+    → ServesAlone net (host who) (cond t (call ∷ callsOf who rest) (callsOf who rest)) guest′
 step net host call rest who guest′ true e m then = (subst (λ (k : ℕ). Answered net (host k) call) (eqb-true (call .who) who e) m, then)
 step net host call rest who guest′ false e m then = then
 

@@ -5,16 +5,18 @@ use mathlib.Core.List.{List, _++_}
 use lib.ListN.{length, drop}
 use Rattle.dhcp.specs.Rfc2131.{reply}
 use Rattle.options.specs.Rfc2132.{walk, walkFrom}
-use Rattle.frames.specs.Answer.{Meets, Outcome, paper}
-use Rattle.frames.specs.Network.{network}
-use Rattle.frames.specs.declared.answer.Answer.{Answer}
-use Rattle.frames.specs.declared.answer.Guest.{Guest}
-use Rattle.frames.specs.Rfc768.{datagram}
-use Rattle.frames.specs.Rfc791.{header, headerWith, ipFrame}
-use Rattle.rules.specs.Rfc792.{echo, echoWith}
+use Rattle.record.specs.Answer.{Meets, Outcome, paper}
+use Rattle.record.specs.Network.{network}
+use Rattle.record.specs.declared.answer.Answer.{Answer}
+use Rattle.record.specs.declared.guest.Guest.{Guest}
+use Rattle.wire.specs.Rfc768.{datagram}
+use Rattle.wire.specs.Rfc791.{header, headerWith}
+use Rattle.frames.specs.Frames.{ipFrame}
+use Rattle.wire.specs.Rfc792.{echo, echoWith}
 use Rattle.rules.specs.Rfc826.{replyTo}
 use Rattle.rules.specs.Rfc2131.{dhcpFrame}
-use Rattle.rules.specs.Rules.{decision, arpDecision, ipDecision, icmpDecision, udpDecision, dhcpDecision, framing, outcomeOf, outcome}
+use Rattle.rules.specs.Rules.{decision, arpDecision, ipDecision, icmpDecision, udpDecision, dhcpDecision, outcomeOf, outcome}
+use Rattle.record.specs.Answer.{framing}
 use Rattle.sums.specs.Rfc1071.{words, sum, total, fold, checksum}
 use Rattle.laws.specs.Marked.{Holds, All, call, marked, unmarked, longPing}
 

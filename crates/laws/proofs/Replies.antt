@@ -5,13 +5,13 @@ use mathlib.Core.List.{List, [], _∷_}
 use native.Mathlib.Omega.{arith}
 use lib.ListN.{length, take, drop}
 use Rattle.dhcp.proofs.ReadBack.{FourBytes}
-use Rattle.fields.specs.Rfc791.{identification, sourceOf}
-use Rattle.fields.specs.Rfc894.{body, sourceMac, typeOf}
-use Rattle.frames.specs.Answer.{paper, Meets}
-use Rattle.frames.specs.declared.answer.Answer.{Answer}
-use Rattle.frames.specs.declared.answer.Guest.{Guest}
-use Rattle.frames.specs.declared.network.Network.{Network}
-use Rattle.rules.specs.Rfc792.{echo}
+use Rattle.wire.specs.Rfc791.{identification, sourceOf}
+use Rattle.wire.specs.Rfc894.{body, sourceMac, typeOf}
+use Rattle.record.specs.Answer.{paper, Meets}
+use Rattle.record.specs.declared.answer.Answer.{Answer}
+use Rattle.record.specs.declared.guest.Guest.{Guest}
+use Rattle.record.specs.declared.network.Network.{Network}
+use Rattle.wire.specs.Rfc792.{echo}
 use Rattle.rules.specs.Rules.{decision, outcome}
 use Rattle.rules.specs.declared.decision.Decision.{Decision}
 use Rattle.rules.specs.declared.decision.Decision.the-variants.{Drop, DropNoting, ArpReply, EchoReply, DhcpReply, Dns, Relay, Tcp, TooLong, CutType}

@@ -4,13 +4,13 @@ use mathlib.Core.Path.{_≡_}
 use mathlib.Core.List.{List, [], _∷_}
 use lib.Dec.{eqb}
 use lib.ListN.{length, take}
-use Rattle.frames.specs.Answer.{Meets}
-use Rattle.frames.specs.Pick.{pick}
-use Rattle.frames.specs.declared.answer.Answer.{Answer}
-use Rattle.frames.specs.declared.answer.Guest.{Guest}
-use Rattle.frames.specs.declared.answer.Verdict.{Verdict}
-use Rattle.frames.specs.declared.answer.Verdict.the-variants.{Drop, Reply, Dns, Relay, Tcp, NoRoom, TooLong, CutType}
-use Rattle.frames.specs.declared.network.Network.{Network}
+use Rattle.record.specs.Answer.{Meets}
+use mathlib.Core.Bool.{cond}
+use Rattle.record.specs.declared.answer.Answer.{Answer}
+use Rattle.record.specs.declared.guest.Guest.{Guest}
+use Rattle.record.specs.declared.answer.Verdict.{Verdict}
+use Rattle.record.specs.declared.answer.Verdict.the-variants.{Drop, Reply, Dns, Relay, Tcp, NoRoom, TooLong, CutType}
+use Rattle.record.specs.declared.network.Network.{Network}
 use Rattle.rules.specs.Rules.{outcome}
 
 -- A call: whose it is, the frame, the buffer that is lent, whatever it holds, and the answer with the buffer afterwards.
@@ -31,7 +31,7 @@ Host = ℕ → Guest
 
 -- the host once the guest `who` has this record
 abbrev pub storing : Host → (who : ℕ) → Guest → Host
-storing host who guest other = pick (eqb who other) guest (host other)
+storing host who guest other = cond (eqb who other) guest (host other)
 
 -- Calls one after the other, of any guests in any order: each is answered from its guest's record, and the record answered is kept.
 abbrev pub Serves : Network → Host → List Call → Host → Type 0
@@ -46,7 +46,7 @@ ServesAlone net guest (call ∷ rest) guest′ = Answered net guest call × Serv
 -- the calls of one guest
 abbrev pub callsOf : (who : ℕ) → List Call → List Call
 callsOf who [] = []
-callsOf who (call ∷ rest) = pick (eqb (call .who) who) (call ∷ callsOf who rest) (callsOf who rest)
+callsOf who (call ∷ rest) = cond (eqb (call .who) who) (call ∷ callsOf who rest) (callsOf who rest)
 
 -- what a guest hands in: its frame; and the room that the host gives it
 pub record Asked : Type 0 where

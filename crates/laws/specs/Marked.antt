@@ -4,10 +4,10 @@ use Prim.Native.Nat.{ℕ, _+_, _-_}
 use mathlib.Core.Path.{_≡_}
 use mathlib.Core.List.{List, [], _∷_, _++_}
 use lib.ListN.{length, take, replicate}
-use Rattle.fields.specs.Bytes.{be16}
-use Rattle.frames.specs.Answer.{fresh}
-use Rattle.frames.specs.Network.{network}
-use Rattle.frames.specs.declared.answer.Guest.{Guest}
+use Rattle.base.specs.Bytes.{be16}
+use Rattle.record.specs.Guest.{fresh}
+use Rattle.record.specs.Network.{network}
+use Rattle.record.specs.declared.guest.Guest.{Guest}
 use Rattle.rules.specs.Rules.{outcome}
 use Rattle.sums.specs.Rfc1071.{checksum}
 

@@ -3,17 +3,18 @@ use Prim.Native.Nat.{ℕ, _+_, _%_, _≤_, _<_}
 use mathlib.Core.Path.{_≡_}
 use mathlib.Core.List.{List, []}
 use lib.ListN.{length, take, drop}
-use Rattle.fields.specs.Rfc791.{protocolOf}
-use Rattle.fields.specs.Rfc894.{body, typeOf}
-use Rattle.fields.specs.Rfc2131.{transactionId}
-use Rattle.frames.specs.declared.answer.Guest.{Guest}
-use Rattle.frames.specs.declared.answer.Verdict.{Verdict}
-use Rattle.frames.specs.declared.answer.Verdict.the-variants.{Drop, Reply, Dns, Relay, Tcp, NoRoom, TooLong, CutType}
-use Rattle.frames.specs.declared.network.Network.{Network}
+use Rattle.wire.specs.Rfc791.{protocolOf}
+use Rattle.wire.specs.Rfc894.{body, typeOf}
+use Rattle.wire.specs.Rfc2131.{transactionId}
+use Rattle.record.specs.declared.guest.Guest.{Guest}
+use Rattle.record.specs.declared.answer.Verdict.{Verdict}
+use Rattle.record.specs.declared.answer.Verdict.the-variants.{Drop, Reply, Dns, Relay, Tcp, NoRoom, TooLong, CutType}
+use Rattle.record.specs.declared.network.Network.{Network}
 use Rattle.rules.specs.Rfc792.{echoFrame}
 use Rattle.rules.specs.Rfc826.{arpReply}
 use Rattle.rules.specs.Rfc2131.{dhcpFrame}
-use Rattle.rules.specs.Rules.{datagramData, decision, noting}
+use Rattle.rules.specs.Rules.{datagramData, decision}
+use Rattle.record.specs.Guest.{noting}
 use Rattle.rules.specs.Seen.{Message, CutMessage, Query, Outbound, TooLongPing, Segment}
 use Rattle.rules.specs.declared.decision.Decision.{Decision}
 use Rattle.rules.specs.declared.decision.Decision.the-variants.{DropNoting, ArpReply, EchoReply, DhcpReply}

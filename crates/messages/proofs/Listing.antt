@@ -11,7 +11,7 @@ use lib.Dec.{lit≤}
 use lib.ListN.{length, drop, take, length-drop, drop-of-length-le, take-append-drop}
 use lib.Seq.{drop-cons, drop-drop, length-take-le}
 use borrow.Author.Tests.{ne-eqb, eqb-false}
-use Rattle.fields.specs.Bytes.{u8At}
+use Rattle.base.specs.Bytes.{u8At}
 use Rattle.grammar.specs.Grammar.{Item, pad, option, ItemList, END, item, IsList, options53}
 use Rattle.messages.specs.Messages.{AllZero, Gives, before, within, ListGives, Listed}
 use Rattle.grammar.proofs.Items.{Starts, ends, pads, opts, starts, list-nil, no-cons, head-same, tail-same}

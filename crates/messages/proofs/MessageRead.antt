@@ -4,7 +4,7 @@ use mathlib.Core.Path.{_≡_, refl, ap, sym, subst, _∙_}
 use mathlib.Core.List.{List, [], _∷_}
 use native.Mathlib.Nat.{not-suc-le-zero}
 use lib.ListN.{drop}
-use Rattle.fields.specs.Bytes.{u8At}
+use Rattle.base.specs.Bytes.{u8At}
 use Rattle.grammar.specs.Grammar.{DHCPHeader, TypedOnce, options53}
 use Rattle.grammar.specs.Report.{values}
 use Rattle.messages.specs.Messages.{Gives, before, within, ListGives, Listed, MessageRead}

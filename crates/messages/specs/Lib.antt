@@ -1,2 +1,1 @@
-pub mod Tells
 pub mod Messages

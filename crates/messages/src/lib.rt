@@ -4,12 +4,12 @@
 ghost use mathlib.Core.Path.{_≡_};
 ghost use Prim.Native.Nat.{_+_, _≤_, _<_};
 ghost use lib.ListN.{length, drop};
-ghost use Rattle.fields.specs.Bytes.{u8At};
+ghost use Rattle.base.specs.Bytes.{u8At};
 ghost use Rattle.grammar.specs.Grammar.{DHCPHeader};
 ghost use Rattle.messages.specs.Messages.{AllZero, Listed, MessageRead};
-ghost use Rattle.messages.specs.Tells.{Tells};
-use fields::byte_at;
-use fields::u32be;
+ghost use Rattle.base.specs.Tells.{Tells};
+use wire::bytes::byte_at;
+use wire::bytes::u32be;
 
 // The fixed fields and the cookie.
 pub const HEADER: usize = 240;

@@ -1,6 +1,6 @@
 -- What a cut place says: from there on the message is an option 53 with a length of one or more, and nothing behind it.
 use Prim.Native.Nat.{ℕ, zero, suc, _+_, _≤_}
-use mathlib.Core.Bool.{Bool, true, false, _&&_, false≢true}
+use mathlib.Core.Bool.{Bool, true, false, _&&_, false≢true, cond}
 use mathlib.Core.Path.{_≡_, refl, ap, sym, _∙_}
 use mathlib.Core.List.{List, [], _∷_}
 use native.Mathlib.Omega.{arith}
@@ -8,7 +8,6 @@ use borrow.Author.Tests.{eqb-true, leb-true}
 use lib.ListN.{drop}
 use lib.Seq.{drop-drop}
 use lib.Dec.{eqb, leb}
-use Rattle.frames.specs.Pick.{pick}
 use Rattle.options.specs.Rfc2132.{Walked, typed, cut, decides, typeAt, walk, walkFrom}
 
 pub record LastOption (message : List ℕ) (place : ℕ) : Type 0 where
@@ -79,7 +78,7 @@ ends-there (code ∷ len ∷ rest) from zero place e =
     go (eqb code 255) (eqb code 0) (decides code len) refl e (ends-there (len ∷ rest) (from + 1) 0 place) (ends-there rest (from + 2) len place)
   where
     go : (s t u : Bool) → decides code len ≡ u
-        → pick s (typed 0) (pick t (walkFrom (from + 1) 0 (len ∷ rest)) (pick u (typeAt from rest) (walkFrom (from + 2) len rest))) ≡ cut place
+        → cond s (typed 0) (cond t (walkFrom (from + 1) 0 (len ∷ rest)) (cond u (typeAt from rest) (walkFrom (from + 2) len rest))) ≡ cut place
         → (walkFrom (from + 1) 0 (len ∷ rest) ≡ cut place → EndsCut (len ∷ rest) (from + 1) place)
         → (walkFrom (from + 2) len rest ≡ cut place → EndsCut rest (from + 2) place) → EndsCut (code ∷ len ∷ rest) from place
     go true t u d p pad other = no-cut 0 place p

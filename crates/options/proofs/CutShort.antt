@@ -1,6 +1,6 @@
 -- A message that was cut short: it has the type of the whole, or none, or it is cut at its very end; it never has another type.
 use Prim.Native.Nat.{ℕ, zero, suc, _+_, _-_}
-use mathlib.Core.Bool.{Bool, true, false}
+use mathlib.Core.Bool.{Bool, true, false, cond}
 use mathlib.Core.Path.{_≡_, refl, ap, sym, _∙_, subst}
 use mathlib.Core.List.{List, [], _∷_}
 use native.Mathlib.Omega.{arith}
@@ -8,7 +8,6 @@ use native.Mathlib.Nat.{zero-add}
 use lib.ListN.{take, drop, length-take, drop-of-length-le}
 use borrow.Author.Tests.{leb-true, leb-false}
 use lib.Dec.{eqb, leb}
-use Rattle.frames.specs.Pick.{pick}
 use Rattle.options.specs.Rfc2132.{Walked, typed, cut, decides, typeAt, walk, walkFrom}
 use Rattle.options.proofs.Sentences.{end-of-data}
 
@@ -19,7 +18,7 @@ pub data Shortened (whole part : Walked) (ended : ℕ) : Type 0 where
   cut-off : (place : ℕ) → place + 2 ≡ ended → part ≡ cut place → Shortened whole part ended
 
 -- both go the same way at a test
-both : (t : Bool) {a a′ b b′ : Walked} {ended : ℕ} → Shortened a a′ ended → Shortened b b′ ended → Shortened (pick t a b) (pick t a′ b′) ended
+both : (t : Bool) {a a′ b b′ : Walked} {ended : ℕ} → Shortened a a′ ended → Shortened b b′ ended → Shortened (cond t a b) (cond t a′ b′) ended
 both true s r = s
 both false s r = r
 

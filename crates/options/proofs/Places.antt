@@ -6,7 +6,7 @@ use mathlib.Core.List.{List, _∷_}
 use native.Mathlib.Omega.{arith}
 use lib.ListN.{length, drop, drop-of-length-le}
 use lib.Seq.{drop-cons, drop-drop}
-use Rattle.fields.specs.Bytes.{u8At}
+use Rattle.base.specs.Bytes.{u8At}
 use Rattle.options.specs.Rfc2132.{Walked, typed, cut, decides, walkFrom}
 use Rattle.options.proofs.Sentences.{end-of-data, code-255, code-last, code-0, type-there, type-cut, every-other}
 

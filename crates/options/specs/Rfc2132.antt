@@ -1,10 +1,9 @@
 -- DHCP options: RFC 2132, section 2, walked as document 01 says ("The option walk starts at 240").
 use Prim.Native.Nat.{ℕ, zero, suc, _+_}
-use mathlib.Core.Bool.{Bool, _&&_}
+use mathlib.Core.Bool.{Bool, _&&_, cond}
 use mathlib.Core.List.{List, [], _∷_}
 use lib.ListN.{length, drop}
 use lib.Dec.{eqb, leb}
-use Rattle.frames.specs.Pick.{pick}
 
 -- section 2: an option is its code, the number of its value's bytes, and these
 abbrev pub option : (code : ℕ) (value : List ℕ) → List ℕ
@@ -34,9 +33,9 @@ walkFrom place (suc over) (byte ∷ rest) = walkFrom (place + 1) over rest
 -- "a code that is the last byte ends it with type 0"
 walkFrom place zero (code ∷ []) = typed 0
 walkFrom place zero (code ∷ len ∷ rest) =
-    pick (eqb code 255) (typed 0)  -- "Code 255"
-    (pick (eqb code 0) (walkFrom (place + 1) 0 (len ∷ rest))  -- "Code 0 is one byte"
-    (pick (decides code len) (typeAt place rest)  -- "The scan stops at the first option 53 whose length is one or more"
+    cond (eqb code 255) (typed 0)  -- "Code 255"
+    (cond (eqb code 0) (walkFrom (place + 1) 0 (len ∷ rest))  -- "Code 0 is one byte"
+    (cond (decides code len) (typeAt place rest)  -- "The scan stops at the first option 53 whose length is one or more"
     (walkFrom (place + 2) len rest)))  -- "Every other option is stepped over by its length"
 
 -- "The option walk starts at 240"

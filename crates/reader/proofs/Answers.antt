@@ -7,7 +7,7 @@ use mathlib.Core.List.{List, [], _∷_}
 use native.Mathlib.Nat.{zero-add}
 use native.Mathlib.Omega.{arith}
 use lib.ListN.{length, drop, length-drop}
-use Rattle.fields.specs.Bytes.{u16At}
+use Rattle.base.specs.Bytes.{u16At}
 use Rattle.grammar.specs.Grammar.{Layer, Derivation, arp, otherIPv4, icmp, udp, dhcp, tcp, body, headerLength, payload, protocol, dataOffset, Ethernet, ARP, IPv4, OtherIPv4, ICMP, UDP, TCP, CarriesDHCP, ethernetLayer, ipLayer, payloadAt, payloadLayer, dataAt, messageLayer, Derives}
 use Rattle.reader.specs.Helpers.{Headed, Framed, Opened}
 use Rattle.messages.specs.Messages.{MessageRead}

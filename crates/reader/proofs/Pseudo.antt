@@ -4,9 +4,9 @@ use mathlib.Core.Path.{_≡_, refl, ap, ap₂, _∙_}
 use mathlib.Core.List.{List, _++_}
 use native.Mathlib.Omega.{arith}
 use lib.ListN.{length}
-use Rattle.fields.specs.Bytes.{u8At, bytesAt}
-use Rattle.frames.specs.Rfc768.{pseudoHeader as Rfc768·pseudoHeader}
-use Rattle.frames.proofs.Lists.{part-bytes}
+use Rattle.base.specs.Bytes.{u8At, bytesAt}
+use Rattle.wire.specs.Rfc768.{pseudoHeader as Rfc768·pseudoHeader}
+use Rattle.base.proofs.Lists.{part-bytes}
 use Rattle.sums.specs.Rfc1071.{total, fold}
 use Rattle.sums.proofs.Laws.{fold-more}
 use Rattle.grammar.specs.Grammar.{headerLength, payload, pseudoHeader}

@@ -6,11 +6,11 @@ use native.Mathlib.Nat.{zero-add, add-assoc}
 use lib.Dec.{eqb}
 use lib.ListN.{length, take, drop}
 use lib.Seq.{getD-drop}
-use Rattle.fields.specs.Bytes.{u8At, u16At}
-use Rattle.frames.proofs.Lists.{from-on}
+use Rattle.base.specs.Bytes.{u8At, u16At}
+use Rattle.base.proofs.Lists.{from-on}
 use Rattle.sums.specs.Rfc1071.{total, fold, SumsRight}
 use Rattle.grammar.specs.Grammar.{UDPSums, unsummed, summed, pseudoHeader, payload}
-use Rattle.messages.specs.Tells.{Tells}
+use Rattle.base.specs.Tells.{Tells}
 use Rattle.messages.proofs.Telling.{tells-eq}
 
 -- a sum from 0 on, compared with 65,535, tells whether its bytes sum right

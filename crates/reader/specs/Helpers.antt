@@ -3,7 +3,7 @@ use Prim.Native.Nat.{ℕ, _≤_}
 use mathlib.Core.Path.{_≡_}
 use mathlib.Core.List.{List}
 use lib.ListN.{length}
-use Rattle.fields.specs.Bytes.{u16At}
+use Rattle.base.specs.Bytes.{u16At}
 use Rattle.grammar.specs.Grammar.{Ethernet, IPv4, body, headerLength, ethernetLayer, ipLayer, payloadAt}
 use Rattle.reader.specs.Told.{layerOf}
 use Rattle.reader.specs.declared.parts.Layer.{Layer as Parts·Layer}

@@ -1,8 +1,8 @@
 // ARP: RFC 826.
 ghost use Rattle.grammar.specs.Grammar.{ARP};
-ghost use Rattle.messages.specs.Tells.{Tells};
-use fields::byte_at;
-use fields::u16be;
+ghost use Rattle.base.specs.Tells.{Tells};
+use wire::bytes::byte_at;
+use wire::bytes::u16be;
 
 const SIZE: usize = 28;
 

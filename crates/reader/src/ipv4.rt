@@ -2,10 +2,10 @@
 ghost use mathlib.Core.Path.{_≡_};
 ghost use Prim.Native.Nat.{_≤_};
 ghost use Rattle.grammar.specs.Grammar.{IPv4, Unfragmented, headerLength};
-ghost use Rattle.messages.specs.Tells.{Tells};
-use fields::byte_at;
-use fields::u16be;
+ghost use Rattle.base.specs.Tells.{Tells};
 use sums::sum;
+use wire::bytes::byte_at;
+use wire::bytes::u16be;
 
 const SHORTEST: usize = 20;
 

@@ -11,11 +11,11 @@ mod ipv4;
 mod parts;
 mod payloads;
 
-use fields::byte_at;
-use fields::u16be;
 pub use parts::Layer;
 pub use parts::Reading;
 use parts::laid;
+use wire::bytes::byte_at;
+use wire::bytes::u16be;
 
 const ETHERNET_HEADER: usize = 14;
 

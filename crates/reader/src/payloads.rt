@@ -4,7 +4,7 @@ ghost use mathlib.Core.List.{_++_};
 ghost use Prim.Native.Nat.{_≤_, _*_};
 ghost use Rattle.sums.specs.Rfc1071.{SumsRight};
 ghost use Rattle.grammar.specs.Grammar.{ICMP, UDP, TCP, CarriesDHCP, dataOffset, payload, protocol, pseudoHeader};
-ghost use Rattle.messages.specs.Tells.{Tells};
+ghost use Rattle.base.specs.Tells.{Tells};
 ghost use Rattle.reader.specs.Helpers.{Headed};
 use crate::ipv4::PROTOCOL;
 use crate::ipv4::SOURCE;
@@ -12,11 +12,11 @@ use crate::ipv4::SUMS_RIGHT;
 use crate::ipv4::TARGET;
 use crate::ipv4::TOTAL_LENGTH;
 use crate::ipv4::header_length;
-use fields::address_at;
-use fields::byte_at;
-use fields::u16be;
-use frames::pseudo_header;
 use sums::sum;
+use wire::bytes::address_at;
+use wire::bytes::byte_at;
+use wire::bytes::u16be;
+use wire::udp::pseudo_header;
 
 pub const ICMP_HEADER: usize = 8;
 

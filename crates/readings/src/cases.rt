@@ -4,8 +4,8 @@
 ghost use Prim.Native.Nat.{_≤_};
 use crate::expected;
 use crate::spaces;
-use fields::byte_at;
-use fields::u32be;
+use wire::bytes::byte_at;
+use wire::bytes::u32be;
 
 // What comes of a line.
 pub enum Case {

@@ -1,10 +1,10 @@
 // What a line expects of the reader. Behind KIND and ORIGIN stand the layers of the kind's reading, the
 // outermost first: header, payload and stop, in four bytes each. DHCP's message type follows them.
 ghost use Prim.Native.Nat.{_≤_, _<_};
-use fields::byte_at;
-use fields::u32be;
 use reader::Layer;
 use reader::Reading;
+use wire::bytes::byte_at;
+use wire::bytes::u32be;
 
 const OUTSIDE: u8 = 0;
 

@@ -1,9 +1,9 @@
 // What a line expects of a builder, and whether an answer is that.
-use fields::byte_at;
-use fields::u32be;
-use frames::Verdict;
+use record::Verdict;
 use vectors::part;
 use vectors::rest;
+use wire::bytes::byte_at;
+use wire::bytes::u32be;
 ghost use mathlib.Core.Path.{_≡_};
 ghost use Prim.Native.Nat.{_≤_};
 ghost use lib.ListN.{length};

@@ -5,14 +5,14 @@ use crate::answers::Expected;
 use crate::frame;
 use crate::messages;
 use crate::tally;
-use fields::address_at;
-use fields::byte_at;
-use fields::mac_at;
-use fields::u16be;
-use fields::u32be;
-use frames::Answer;
-use frames::Guest;
+use record::Answer;
+use record::Guest;
 use tcp::Endpoints;
+use wire::bytes::address_at;
+use wire::bytes::byte_at;
+use wire::bytes::mac_at;
+use wire::bytes::u16be;
+use wire::bytes::u32be;
 
 // How a line came out, and the row of the tally that counts it.
 pub struct Case {

@@ -1,10 +1,10 @@
 // A whole frame that another made: its checksums are right.
-use fields::ip_dst;
-use fields::ip_hlen;
-use fields::ip_proto;
-use fields::ip_src;
-use fields::u16be;
 use vectors::part;
+use wire::bytes::u16be;
+use wire::ipv4::ip_dst;
+use wire::ipv4::ip_hlen;
+use wire::ipv4::ip_proto;
+use wire::ipv4::ip_src;
 
 const ICMP: u8 = 1;
 
@@ -34,6 +34,6 @@ pub fn sums_right(frame: &[u8]) -> bool {
 
 fn with_pseudo_header(frame: &[u8], payload: &[u8]) -> u16 {
     let len = (payload.len() % 65536) as u16;
-    let pseudo = frames::pseudo_header(ip_src(frame), ip_dst(frame), ip_proto(frame), len);
+    let pseudo = wire::udp::pseudo_header(ip_src(frame), ip_dst(frame), ip_proto(frame), len);
     65535 - sums::sum(sums::sum(0, &pseudo), payload)
 }

@@ -4,12 +4,12 @@ use crate::answers;
 use crate::cases;
 use crate::pieces;
 use crate::tally;
-use fields::byte_at;
-use fields::mac_at;
-use fields::u16be;
-use fields::u32be;
-use frames::Guest;
-use frames::Verdict;
+use record::Guest;
+use record::Verdict;
+use wire::bytes::byte_at;
+use wire::bytes::mac_at;
+use wire::bytes::u16be;
+use wire::bytes::u32be;
 
 // A call with the record before it, and one that goes on with the record that the last one left.
 const WITH_RECORD: u8 = 13;

@@ -9,9 +9,9 @@ mod messages;
 mod pieces;
 mod tally;
 
-use fields::byte_at;
-use frames::Guest;
+use record::Guest;
 use vectors::Tally;
+use wire::bytes::byte_at;
 
 const STDIN: i32 = 0;
 

@@ -1,12 +1,12 @@
 // DHCP lines: the walk over a message's options, the types of replies, and the reply.
 use crate::answers;
 use crate::answers::Expected;
-use fields::byte_at;
-use fields::mac_at;
-use fields::u16be;
-use fields::u32be;
-use frames::Network;
 use options::Found;
+use record::Network;
+use wire::bytes::byte_at;
+use wire::bytes::mac_at;
+use wire::bytes::u16be;
+use wire::bytes::u32be;
 
 const CUT: u8 = 7;
 
@@ -33,7 +33,7 @@ fn walks_in(line: &[u8], space: &mut [u8]) -> bool {
 // Behind the line's end there are no bytes to lay, so that seed 0 lays zeros.
 fn is_walk(line: &[u8], ruled: usize, message: &mut [u8]) -> bool {
     answers::lay_payload(line, line.len(), byte_at(line, 6), message);
-    frames::put(message, ruled, vectors::rest(line, WRITTEN_AT));
+    base::put(message, ruled, vectors::rest(line, WRITTEN_AT));
     is_found(
         options::message_type(message),
         byte_at(line, 1),

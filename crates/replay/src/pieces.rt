@@ -3,9 +3,9 @@
 ghost use Prim.Native.Nat.{_≤_, _<_};
 ghost use lib.ListN.{length};
 use crate::answers;
-use fields::byte_at;
-use fields::u16be;
-use fields::u32be;
+use wire::bytes::byte_at;
+use wire::bytes::u16be;
+use wire::bytes::u32be;
 
 const WRITTEN: u8 = 1;
 
@@ -145,6 +145,6 @@ fn lay_piece(pieces: &[u8], frame: &[u8], out: &mut [u8]) -> bool {
 
 fn lay_part(from: &[u8], at: usize, out: &mut [u8]) -> bool {
     let part = vectors::part(from, at, out.len());
-    frames::put(out, 0, part);
+    base::put(out, 0, part);
     part.len() == out.len()
 }

@@ -1,28 +1,27 @@
 -- The tests on a UDP frame with its fields read where they stand in the frame, one equation for each way that they end.
 use Prim.Native.Nat.{ℕ, _+_, _*_, _-_, _≤_, _<_}
 use mathlib.Core.Path.{_≡_, refl, ap, ap₂, sym, _∙_}
-use mathlib.Core.Bool.{Bool, true, false, _&&_}
+use mathlib.Core.Bool.{Bool, true, false, _&&_, cond}
 use mathlib.Core.List.{List}
 use native.Mathlib.Omega.{arith}
 use borrow.Author.Tests.{ltb-true, ltb-false, lt-ltb, le-ltb}
 use lib.Dec.{eqb, ltb}
 use lib.ListN.{length, getD, drop, length-drop}
 use lib.Seq.{getD-drop}
-use Rattle.fields.specs.Bytes.{u16At, part}
-use Rattle.fields.specs.Rfc768.{sourcePort, targetPort, lengthField}
-use Rattle.fields.specs.Rfc791.{targetOf}
-use Rattle.fields.specs.Rfc894.{body}
-use Rattle.frames.specs.Pick.{pick}
-use Rattle.frames.specs.declared.network.Network.{Network}
+use Rattle.base.specs.Bytes.{u16At, part}
+use Rattle.wire.specs.Rfc768.{sourcePort, targetPort, lengthField}
+use Rattle.wire.specs.Rfc791.{targetOf}
+use Rattle.wire.specs.Rfc894.{body}
+use Rattle.record.specs.declared.network.Network.{Network}
 use Rattle.rules.specs.Rules.{payloadAt, payload, dataAt, dataLength, udpDecision, dhcpDecision}
 use Rattle.rules.specs.Same.{same}
 use Rattle.rules.specs.declared.decision.Decision.the-variants.{Drop, Dns, Relay}
 
 -- the smaller of two numbers less `n` is the smaller of both, less `n`
-smaller-less : (n a b : ℕ) → n ≤ a → n ≤ b → pick (ltb (b - n) (a - n)) (b - n) (a - n) ≡ pick (ltb b a) b a - n
+smaller-less : (n a b : ℕ) → n ≤ a → n ≤ b → cond (ltb (b - n) (a - n)) (b - n) (a - n) ≡ cond (ltb b a) b a - n
 smaller-less n a b h k = go (ltb b a) refl
   where
-    go : (t : Bool) → ltb b a ≡ t → pick (ltb (b - n) (a - n)) (b - n) (a - n) ≡ pick t b a - n
+    go : (t : Bool) → ltb b a ≡ t → cond (ltb (b - n) (a - n)) (b - n) (a - n) ≡ cond t b a - n
     go true e = let l = ltb-true b a e in simp (lt-ltb (b - n) (a - n) (omega arith))
     go false e = let l = ltb-false b a e in simp (le-ltb (b - n) (a - n) (omega arith))
 
@@ -78,12 +77,12 @@ module _ (net : Network) (frame : List ℕ) where
       large = omega (arith, length-in-frame)
 
       -- how long the data is, as the code finds it
-      module _ (k : ℕ) (size : k ≡ pick (ltb (length frame - payloadAt frame - 8) (u16At frame (payloadAt frame + 4) - 8)) (length frame - payloadAt frame - 8) (u16At frame (payloadAt frame + 4) - 8)) where
+      module _ (k : ℕ) (size : k ≡ cond (ltb (length frame - payloadAt frame - 8) (u16At frame (payloadAt frame + 4) - 8)) (length frame - payloadAt frame - 8) (u16At frame (payloadAt frame + 4) - 8)) where
         data-length : k ≡ dataLength frame
         data-length =
             size
             ∙ smaller-less 8 (u16At frame (payloadAt frame + 4)) (length frame - payloadAt frame) stated whole
-            ∙ ap (λ (n : ℕ). n - 8) (sym (ap₂ (λ (l f : ℕ). pick (ltb l f) l f) long length-in-frame))
+            ∙ ap (λ (n : ℕ). n - 8) (sym (ap₂ (λ (l f : ℕ). cond (ltb l f) l f) long length-in-frame))
 
         ports : (b : Bool) → (eqb (u16At frame (payloadAt frame)) 68 && eqb (u16At frame (payloadAt frame + 2)) 67) ≡ b
             → (eqb (sourcePort (payload frame)) 68 && eqb (targetPort (payload frame)) 67) ≡ b

@@ -8,11 +8,11 @@ use native.Mathlib.Nat.{add-zero}
 use borrow.Author.Tests.{lt-ltb, le-ltb, eq-eqb, ne-eqb}
 use lib.ListN.{length, getD, length-drop}
 use lib.Seq.{getD-drop}
-use Rattle.fields.specs.Bytes.{u8At}
-use Rattle.fields.specs.Rfc791.{targetOf}
-use Rattle.fields.specs.Rfc792.{messageType}
-use Rattle.fields.specs.Rfc894.{body}
-use Rattle.frames.specs.declared.network.Network.{Network}
+use Rattle.base.specs.Bytes.{u8At}
+use Rattle.wire.specs.Rfc791.{targetOf}
+use Rattle.wire.specs.Rfc792.{messageType}
+use Rattle.wire.specs.Rfc894.{body}
+use Rattle.record.specs.declared.network.Network.{Network}
 use Rattle.rules.specs.Rules.{payloadAt, payload, icmpDecision}
 use Rattle.rules.specs.Same.{same}
 use Rattle.rules.specs.declared.decision.Decision.the-variants.{Drop, TooLong, EchoReply}

@@ -1,6 +1,6 @@
 -- How much room a host has to lend so that no frame is ever answered 5, and how long a reply can be: 65,549 bytes.
 use Prim.Native.Nat.{ℕ, zero, suc, _+_, _*_, _%_, _≤_}
-use mathlib.Core.Bool.{Bool, true, false}
+use mathlib.Core.Bool.{Bool, true, false, cond}
 use mathlib.Core.List.{List, [], _∷_}
 use mathlib.Core.Logic.{_⊎_, inl, inr}
 use mathlib.Core.Path.{_≡_, refl, ap, sym, subst}
@@ -8,18 +8,20 @@ use native.Mathlib.Omega.{arith}
 use borrow.Author.Tests.{le-ltb}
 use lib.Dec.{ltb}
 use lib.ListN.{length, drop, getD, length-drop}
-use Rattle.fields.specs.Rfc791.{headerLength}
-use Rattle.fields.specs.Rfc894.{body}
-use Rattle.frames.specs.Answer.{Writing, spent}
-use Rattle.frames.specs.Pick.{pick}
-use Rattle.frames.specs.declared.answer.Guest.{Guest}
-use Rattle.frames.specs.declared.network.Network.{Network}
+use Rattle.wire.specs.Rfc791.{headerLength}
+use Rattle.wire.specs.Rfc894.{body}
+use Rattle.record.specs.Answer.{Writing}
+use Rattle.record.specs.Guest.{spent}
+use Rattle.record.specs.declared.guest.Guest.{Guest}
+use Rattle.record.specs.declared.network.Network.{Network}
 use Rattle.rules.proofs.Says.{Says, says}
 use Rattle.rules.specs.Rfc792.{echoFrame}
 use Rattle.rules.specs.Rfc826.{arpReply}
 use Rattle.rules.specs.Rfc2131.{dhcpFrame}
 use Rattle.rules.specs.Room.{Ample, for-all, for-this}
-use Rattle.rules.specs.Rules.{decision, framing, noting, outcome, outcomeOf}
+use Rattle.rules.specs.Rules.{decision, outcome, outcomeOf}
+use Rattle.record.specs.Answer.{framing}
+use Rattle.record.specs.Guest.{noting}
 use Rattle.rules.specs.Seen.{EchoAsked}
 use Rattle.rules.specs.declared.decision.Decision.{Decision}
 use Rattle.rules.specs.declared.decision.Decision.the-variants.{Drop, DropNoting, ArpReply, EchoReply, DhcpReply, Dns, Relay, Tcp, TooLong, CutType}
@@ -58,7 +60,7 @@ module _ (net : Network) (guest : Guest) (frame : List ℕ) (room : ℕ) where
   unfolding framing five one
   framing-tells after need image = go (ltb room need)
     where
-      go : (t : Bool) → getD (pick t (five need) (one need image) .numbers) 1 0 ≡ need
+      go : (t : Bool) → getD (cond t (five need) (one need image) .numbers) 1 0 ≡ need
       go true = refl
       go false = refl
 

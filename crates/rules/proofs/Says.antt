@@ -1,7 +1,7 @@
 -- What each decision says of its frame, by going through the tests once; and that a ping, too long or not, and a TCP frame are always decided as such.
 use Prim.Native.Nat.{ℕ, _≤_, _<_}
 use mathlib.Core.Path.{_≡_, refl, ap, subst, subst⁻¹, _∙_}
-use mathlib.Core.Bool.{Bool, true, false, not, _&&_}
+use mathlib.Core.Bool.{Bool, true, false, not, _&&_, cond}
 use mathlib.Core.Logic.{_⊎_, inl, inr}
 use mathlib.Core.List.{List}
 use native.Mathlib.Omega.{arith}
@@ -10,14 +10,13 @@ use lib.Dec.{T, ltb, eqb}
 use lib.ListN.{length, length-drop}
 use Rattle.dhcp.specs.Rfc2131.{answering}
 use Rattle.options.specs.Rfc2132.{Walked, typed, cut, walk}
-use Rattle.fields.specs.Rfc768.{sourcePort, targetPort, lengthField}
-use Rattle.fields.specs.Rfc791.{protocolOf, targetOf}
-use Rattle.fields.specs.Rfc792.{messageType}
-use Rattle.fields.specs.Rfc826 as Arp
-use Rattle.fields.specs.Rfc894.{body, typeOf}
-use Rattle.fields.specs.Rfc2131 as Dhcp
-use Rattle.frames.specs.Pick.{pick}
-use Rattle.frames.specs.declared.network.Network.{Network}
+use Rattle.wire.specs.Rfc768.{sourcePort, targetPort, lengthField}
+use Rattle.wire.specs.Rfc791.{protocolOf, targetOf}
+use Rattle.wire.specs.Rfc792.{messageType}
+use Rattle.wire.specs.Rfc826 as Arp
+use Rattle.wire.specs.Rfc894.{body, typeOf}
+use Rattle.wire.specs.Rfc2131 as Dhcp
+use Rattle.record.specs.declared.network.Network.{Network}
 use Rattle.rules.specs.Rules.{payloadAt, payload, dataAt, dataLength, datagramData, decision, arpDecision, ipDecision, icmpDecision, udpDecision, dhcpDecision, typeDecision}
 use Rattle.rules.specs.Same.{same}
 use Rattle.rules.specs.Seen.{Carries, Datagram, Message, CutMessage, Handed, Query, Outbound, EchoAsked, TooLongPing, Segment}
@@ -79,7 +78,7 @@ module _ (net : Network) (frame : List ℕ) where
   cut-off place c = c
 
 -- what holds in both cases of a test holds
-pub either : (P : Decision → Type 0) (t : Bool) (a b : Decision) → (t ≡ true → P a) → (t ≡ false → P b) → P (pick t a b)
+pub either : (P : Decision → Type 0) (t : Bool) (a b : Decision) → (t ≡ true → P a) → (t ≡ false → P b) → P (cond t a b)
 either P true a b f g = f refl
 either P false a b f g = g refl
 
@@ -89,7 +88,7 @@ not-both true false e p q = subst⁻¹ T q tt
 not-both false y e p q = subst⁻¹ T p tt
 
 -- an answer that is not 0 is an offer or an acknowledgement
-offer-or-ack : (x y : Bool) (answer : ℕ) → answer ≡ pick x 2 (pick y 5 0) → eqb answer 0 ≡ false → (answer ≡ 2) ⊎ (answer ≡ 5)
+offer-or-ack : (x y : Bool) (answer : ℕ) → answer ≡ cond x 2 (cond y 5 0) → eqb answer 0 ≡ false → (answer ≡ 2) ⊎ (answer ≡ 5)
 offer-or-ack true y answer e f = inl e
 offer-or-ack false true answer e f = inr e
 offer-or-ack false false answer e f = absurd (subst T (rw e at f) tt)
@@ -175,10 +174,10 @@ module _ (net : Network) (frame : List ℕ) where
         no-query = λ p q. not-both ours (eqb t 53) e (ap (λ (l : List ℕ). same l (net .gateway)) p ∙ equal-same (net .gateway)) (eq-eqb t 53 q);
       }))))))
     where
-      no-longer : (l f : ℕ) → pick (ltb l f) l f ≤ l
+      no-longer : (l f : ℕ) → cond (ltb l f) l f ≤ l
       no-longer l f = go (ltb l f) refl
         where
-          go : (t : Bool) → ltb l f ≡ t → pick t l f ≤ l
+          go : (t : Bool) → ltb l f ≡ t → cond t l f ≤ l
           go true e = omega arith
           go false e = ltb-false l f e
 
@@ -210,7 +209,7 @@ module _ (net : Network) (frame : List ℕ) where
       either (Says net frame) (eqb (typeOf frame) 0x0800) _ _ (λ t. ip-says (eqb-true (typeOf frame) 0x0800 t)) (λ g. nothing net frame)))
 
   -- the tests that a ping passes lead to its length
-  echo-decided : EchoAsked net frame → decision net frame ≡ pick (ltb 65515 (length (payload frame))) (TooLong (length (payload frame))) (EchoReply (payloadAt frame))
+  echo-decided : EchoAsked net frame → decision net frame ≡ cond (ltb 65515 (length (payload frame))) (TooLong (length (payload frame))) (EchoReply (payloadAt frame))
   unfolding decision ipDecision icmpDecision
   echo-decided a =
       let c = a .icmp in

@@ -2,12 +2,12 @@
 use Prim.Native.Nat.{ℕ}
 use mathlib.Core.List.{List}
 use Rattle.dhcp.specs.Rfc2131.{reply}
-use Rattle.fields.specs.Rfc894.{sourceMac}
-use Rattle.frames.specs.Network.{broadcastOf}
-use Rattle.frames.specs.Rfc768.{datagram}
-use Rattle.frames.specs.Rfc791.{ipFrame}
-use Rattle.frames.specs.declared.answer.Guest.{Guest}
-use Rattle.frames.specs.declared.network.Network.{Network}
+use Rattle.wire.specs.Rfc894.{sourceMac}
+use Rattle.record.specs.Network.{broadcastOf}
+use Rattle.wire.specs.Rfc768.{datagram}
+use Rattle.frames.specs.Frames.{ipFrame}
+use Rattle.record.specs.declared.guest.Guest.{Guest}
+use Rattle.record.specs.declared.network.Network.{Network}
 
 -- "record's MAC at 28", "UDP source 68, destination 67, as in the Rust. To 10.0.2.255 and the sender's MAC"
 unfoldable pub dhcpFrame : Network → Guest → (frame : List ℕ) (xid type : ℕ) → List ℕ

@@ -4,13 +4,13 @@ use mathlib.Core.Path.{_≡_}
 use mathlib.Core.List.{List}
 use lib.ListN.{length}
 use Rattle.options.specs.Rfc2132.{cut, walk}
-use Rattle.fields.specs.Bytes.{part}
-use Rattle.fields.specs.Rfc768.{sourcePort, targetPort, lengthField}
-use Rattle.fields.specs.Rfc791.{protocolOf, targetOf}
-use Rattle.fields.specs.Rfc792.{messageType}
-use Rattle.fields.specs.Rfc894.{body, typeOf}
-use Rattle.fields.specs.Rfc2131.{operation, transactionId, magicCookie}
-use Rattle.frames.specs.declared.network.Network.{Network}
+use Rattle.base.specs.Bytes.{part}
+use Rattle.wire.specs.Rfc768.{sourcePort, targetPort, lengthField}
+use Rattle.wire.specs.Rfc791.{protocolOf, targetOf}
+use Rattle.wire.specs.Rfc792.{messageType}
+use Rattle.wire.specs.Rfc894.{body, typeOf}
+use Rattle.wire.specs.Rfc2131.{operation, transactionId, magicCookie}
+use Rattle.record.specs.declared.network.Network.{Network}
 use Rattle.rules.specs.Rules.{payloadAt, payload, dataAt, dataLength, datagramData}
 
 -- an IPv4 frame of this protocol

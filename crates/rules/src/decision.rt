@@ -1,25 +1,24 @@
 // Document 01's tests on a guest frame, in its order. Nothing here looks at the record or at the room.
 ghost use mathlib.Core.Path.{_≡_};
-ghost use mathlib.Core.Bool.{_&&_};
+ghost use mathlib.Core.Bool.{_&&_, cond};
 ghost use Prim.Native.Nat.{_-_, _≤_};
 ghost use lib.ListN.{length};
 ghost use lib.Dec.{eqb, ltb};
-ghost use Rattle.frames.specs.Pick.{pick};
 ghost use Rattle.rules.specs.Rules.{decision, arpDecision, ipDecision, icmpDecision, udpDecision, dhcpDecision, typeDecision};
 ghost use Rattle.rules.specs.Same.{same as Same·same};
 ghost use Rattle.options.specs.Found.{told};
 use dhcp::reply_type;
-use fields::address_at;
-use fields::byte_at;
-use fields::eth_type;
-use fields::ip_dst;
-use fields::ip_hlen;
-use fields::ip_proto;
-use fields::u16be;
-use fields::u32be;
-use frames::Network;
 use options::Found;
 use options::message_type;
+use record::Network;
+use wire::bytes::address_at;
+use wire::bytes::byte_at;
+use wire::bytes::u16be;
+use wire::bytes::u32be;
+use wire::ethernet::eth_type;
+use wire::ipv4::ip_dst;
+use wire::ipv4::ip_hlen;
+use wire::ipv4::ip_proto;
 
 // What is to be done with a frame. A start or a place is counted from the frame's first byte, but
 // for CutType's, which is counted from the DHCP data's.
@@ -240,7 +239,7 @@ fn decide_type(xid: u32, found: Found) -> Decision
 }
 
 fn smaller(a: usize, b: usize) -> usize
-    ensures { λ r. ⌜ (r ≡ pick (ltb b a) b a) × (r ≤ b) ⌝ }
+    ensures { λ r. ⌜ (r ≡ cond (ltb b a) b a) × (r ≤ b) ⌝ }
 {
     if b < a {
         return b;

@@ -3,7 +3,7 @@ use Prim.Native.Nat.{ℕ}
 use mathlib.Core.Path.{_≡_}
 use mathlib.Core.List.{List, [], _∷_, _++_}
 use lib.ListN.{length}
-use Rattle.frames.proofs.Lists.{all-bytes}
+use Rattle.base.proofs.Lists.{all-bytes}
 use Rattle.rules.specs.Rfc826.{replyTo}
 
 -- what stands between the target's MAC and the gateway's address

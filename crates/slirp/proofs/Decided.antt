@@ -4,12 +4,13 @@ use mathlib.Core.Path.{_≡_, refl, ap, sym, subst, _∙_}
 use mathlib.Core.List.{List}
 use native.Mathlib.Omega.{arith}
 use lib.ListN.{length, length-drop}
-use Rattle.frames.specs.Answer.{Meets, paper}
-use Rattle.frames.specs.declared.answer.Answer.{Answer}
-use Rattle.frames.specs.declared.answer.Guest.{Guest}
-use Rattle.frames.specs.declared.answer.Verdict.{Verdict}
-use Rattle.frames.specs.declared.network.Network.{Network}
-use Rattle.rules.specs.Rules.{payloadAt, decision, outcome, outcomeOf, unwritten}
+use Rattle.record.specs.Answer.{Meets, paper}
+use Rattle.record.specs.declared.answer.Answer.{Answer}
+use Rattle.record.specs.declared.guest.Guest.{Guest}
+use Rattle.record.specs.declared.answer.Verdict.{Verdict}
+use Rattle.record.specs.declared.network.Network.{Network}
+use Rattle.rules.specs.Rules.{payloadAt, decision, outcome, outcomeOf}
+use Rattle.record.specs.Answer.{unwritten}
 use Rattle.rules.specs.declared.decision.Decision.{Decision}
 use Rattle.rules.specs.declared.decision.Decision.the-variants.{EchoReply}
 use Rattle.rules.proofs.Says.{Says, says}

@@ -4,11 +4,11 @@ use mathlib.Core.Path.{_≡_, ap, ap₂, sym, _∙_}
 use mathlib.Core.List.{List, _∷_, _++_}
 use native.Mathlib.Omega.{arith}
 use lib.ListN.{length, drop, length-drop}
-use Rattle.fields.specs.Bytes.{be16}
-use Rattle.frames.specs.Buffer.{put, putIfFits}
-use Rattle.frames.proofs.Lists.{fits, length-put, put-put}
+use Rattle.base.specs.Bytes.{be16}
+use Rattle.base.specs.Buffer.{put, putIfFits}
+use Rattle.base.proofs.Lists.{fits, length-put, put-put}
 use Rattle.sums.specs.Rfc1071.{words, sum, total, fold, checksum}
-use Rattle.rules.specs.Rfc792.{echo, echoWith}
+use Rattle.wire.specs.Rfc792.{echo, echoWith}
 
 -- with a checksum field of 0 the message sums as what lies behind it
 pub blank-sum : (request : List ℕ) → checksum (echoWith 0 request) ≡ checksum (drop 4 request)

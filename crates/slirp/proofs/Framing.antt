@@ -4,16 +4,17 @@ use mathlib.Core.Path.{_≡_}
 use mathlib.Core.List.{List, _++_}
 use borrow.Author.Tests.{lt-ltb, le-ltb}
 use lib.ListN.{length, drop}
-use Rattle.fields.specs.Bytes.{part}
-use Rattle.frames.specs.Answer.{Meets, building, spending, spent}
-use Rattle.frames.specs.Buffer.{put}
-use Rattle.frames.specs.Rfc791.{ipFrame}
-use Rattle.frames.specs.declared.answer.Answer.{Answer}
-use Rattle.frames.specs.declared.answer.Guest.{Guest}
-use Rattle.frames.specs.declared.answer.Verdict.the-variants.{Reply, NoRoom}
-use Rattle.frames.proofs.Fitting.{does-not-fit, does-fit}
+use Rattle.base.specs.Bytes.{part}
+use Rattle.record.specs.Answer.{Meets, building, spending}
+use Rattle.record.specs.Guest.{spent}
+use Rattle.base.specs.Buffer.{put}
+use Rattle.frames.specs.Frames.{ipFrame}
+use Rattle.record.specs.declared.answer.Answer.{Answer}
+use Rattle.record.specs.declared.guest.Guest.{Guest}
+use Rattle.record.specs.declared.answer.Verdict.the-variants.{Reply, NoRoom}
+use Rattle.record.proofs.Fitting.{does-not-fit, does-fit}
 use Rattle.frames.proofs.Framed.{framed-there}
-use Rattle.rules.specs.Rules.{framing}
+use Rattle.record.specs.Answer.{framing}
 
 module _ (guest after : Guest) (need room : ℕ) (image before : List ℕ) where
   -- what is said is what is needed

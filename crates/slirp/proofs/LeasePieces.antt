@@ -8,14 +8,14 @@ use lib.ListN.{length, take, drop, length-take, length-drop, drop-of-length-le}
 use lib.Seq.{take-length}
 use Rattle.dhcp.specs.Rfc2131.{reply, buildReply}
 use Rattle.dhcp.proofs.ReadBack.{FourBytes, reply-reads-back}
-use Rattle.frames.specs.Answer.{Wrote, building}
-use Rattle.frames.specs.Buffer.{put}
+use Rattle.record.specs.Answer.{Wrote, building}
+use Rattle.base.specs.Buffer.{put}
 use Rattle.frames.specs.Builders.{makeUdpPayload}
-use Rattle.frames.specs.Rfc768.{datagram}
-use Rattle.frames.specs.declared.answer.Verdict.{Verdict}
-use Rattle.frames.specs.declared.network.Network.{Network}
+use Rattle.wire.specs.Rfc768.{datagram}
+use Rattle.record.specs.declared.answer.Verdict.{Verdict}
+use Rattle.record.specs.declared.network.Network.{Network}
 use Rattle.frames.proofs.Lengths.{length-datagram}
-use Rattle.frames.proofs.Lists.{copied}
+use Rattle.base.proofs.Lists.{copied}
 
 module _ (net : Network) (mac : List ℕ) (xid kind : ℕ) (four : FourBytes net) (six : length mac ≡ 6) where
   long : length (reply net mac xid kind) ≡ 300

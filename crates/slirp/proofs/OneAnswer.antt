@@ -3,11 +3,11 @@ use mathlib.Core.Path.{_≡_}
 use Prim.Native.Nat.{ℕ}
 use mathlib.Core.List.{List}
 use lib.ListN.{length}
-use Rattle.frames.specs.Answer.{Meets}
-use Rattle.frames.specs.declared.answer.Answer.{Answer}
-use Rattle.frames.specs.declared.answer.Guest.{Guest}
-use Rattle.frames.specs.declared.network.Network.{Network}
-use Rattle.frames.proofs.OneAnswer.{one-outcome}
+use Rattle.record.specs.Answer.{Meets}
+use Rattle.record.specs.declared.answer.Answer.{Answer}
+use Rattle.record.specs.declared.guest.Guest.{Guest}
+use Rattle.record.specs.declared.network.Network.{Network}
+use Rattle.record.proofs.OneAnswer.{one-outcome}
 use Rattle.rules.specs.Rules.{outcome}
 
 pub handle-answers-once : (net : Network) (guest : Guest) (frame before after after′ : List ℕ) (a a′ : Answer)

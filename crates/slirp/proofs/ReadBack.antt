@@ -7,22 +7,22 @@ use lib.ListN.{length, drop, length-drop}
 use lib.Seq.{getD-drop, drop-drop}
 use Rattle.dhcp.specs.Rfc2131.{reply}
 use Rattle.dhcp.proofs.ReadBack.{FourBytes, ReplyOf, reply-reads-back}
-use Rattle.fields.specs.Bytes.{part}
-use Rattle.fields.specs.Rfc791.{sourceOf}
-use Rattle.fields.specs.Rfc792 as Icmp
-use Rattle.fields.specs.Rfc826 as Arp
-use Rattle.fields.specs.Rfc894.{body, targetMac, sourceMac, typeOf}
-use Rattle.frames.specs.Network.{gatewayMac, broadcastOf}
-use Rattle.frames.specs.Rfc768.{datagram}
-use Rattle.frames.specs.Rfc791.{ipFrame}
-use Rattle.frames.specs.declared.answer.Guest.{Guest}
-use Rattle.frames.specs.declared.network.Network.{Network}
+use Rattle.base.specs.Bytes.{part}
+use Rattle.wire.specs.Rfc791.{sourceOf}
+use Rattle.wire.specs.Rfc792 as Icmp
+use Rattle.wire.specs.Rfc826 as Arp
+use Rattle.wire.specs.Rfc894.{body, targetMac, sourceMac, typeOf}
+use Rattle.record.specs.Network.{gatewayMac, broadcastOf}
+use Rattle.wire.specs.Rfc768.{datagram}
+use Rattle.frames.specs.Frames.{ipFrame}
+use Rattle.record.specs.declared.guest.Guest.{Guest}
+use Rattle.record.specs.declared.network.Network.{Network}
 use Rattle.frames.proofs.Lengths.{drop-34, length-ipFrame}
-use Rattle.frames.proofs.Lists.{all-bytes}
+use Rattle.base.proofs.Lists.{all-bytes}
 use Rattle.frames.proofs.ReadBack.{PacketOf, DatagramOf, ethernet-reads-back, frame-reads-back, datagram-reads-back}
 use Rattle.frames.proofs.SumsRight.{sums-right, frame-header-sums-right}
 use Rattle.sums.specs.Rfc1071.{words, sum, total, checksum, SumsRight}
-use Rattle.rules.specs.Rfc792.{echo, echoWith}
+use Rattle.wire.specs.Rfc792.{echo, echoWith}
 use Rattle.rules.specs.Rfc826.{arpReply, replyTo}
 use Rattle.rules.specs.Rfc2131.{dhcpFrame}
 use Rattle.slirp.proofs.LeasePieces.{length-reply-datagram}

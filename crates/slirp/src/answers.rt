@@ -1,9 +1,9 @@
 // Answers that spend no id, and the record that has noted an xid.
 ghost use mathlib.Core.Path.{_≡_};
-ghost use Rattle.rules.specs.Rules.{noting};
-use frames::Answer;
-use frames::Guest;
-use frames::Verdict;
+ghost use Rattle.record.specs.Guest.{noting};
+use record::Answer;
+use record::Guest;
+use record::Verdict;
 
 pub fn answer(guest: Guest, verdict: Verdict) -> Answer
     ensures { λ r. ⌜ r ≡ record { verdict = verdict; guest = guest } ⌝ }

@@ -1,20 +1,20 @@
 // ARP: the gateway's MAC for its address.
 ghost use mathlib.Core.Path.{_≡_};
 ghost use lib.ListN.{length};
-ghost use Rattle.frames.specs.Answer.{Meets};
+ghost use Rattle.record.specs.Answer.{Meets};
 ghost use Prim.Native.Nat.{_≤_};
-ghost use Rattle.frames.specs.Buffer.{put as Buffer·put};
+ghost use Rattle.base.specs.Buffer.{put as Buffer·put};
 ghost use Rattle.rules.specs.Rfc826.{arpReply, replyTo};
-ghost use Rattle.rules.specs.Rules.{framing};
+ghost use Rattle.record.specs.Answer.{framing};
 use crate::answers::answer;
 use crate::answers::no_room;
-use fields::address_at;
-use fields::mac_at;
-use frames::Answer;
-use frames::Guest;
-use frames::Network;
-use frames::Verdict;
-use frames::put;
+use base::put;
+use record::Answer;
+use record::Guest;
+use record::Network;
+use record::Verdict;
+use wire::bytes::address_at;
+use wire::bytes::mac_at;
 
 const FRAME: usize = 42;
 

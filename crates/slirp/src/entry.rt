@@ -1,17 +1,17 @@
 // The entry: one call for one frame.
 ghost use lib.ListN.{length};
-ghost use Rattle.frames.specs.Answer.{Meets};
-ghost use Rattle.frames.specs.Network.{network};
+ghost use Rattle.record.specs.Answer.{Meets};
+ghost use Rattle.record.specs.Network.{network};
 ghost use Rattle.rules.specs.Rules.{outcome};
 use crate::answers::answer;
 use crate::answers::noted;
 use crate::arp::handle_arp;
 use crate::icmp::handle_icmp;
 use crate::lease::handle_dhcp;
-use frames::Answer;
-use frames::Guest;
-use frames::Network;
-use frames::Verdict;
+use record::Answer;
+use record::Guest;
+use record::Network;
+use record::Verdict;
 use rules::Decision;
 use rules::decide;
 

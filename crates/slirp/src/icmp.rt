@@ -2,20 +2,22 @@
 ghost use mathlib.Core.Path.{_≡_};
 ghost use Prim.Native.Nat.{_+_, _≤_};
 ghost use lib.ListN.{length, drop};
-ghost use Rattle.frames.specs.Answer.{Meets, spent};
-ghost use Rattle.frames.specs.Buffer.{put as Buffer·put};
-ghost use Rattle.rules.specs.Rfc792.{echo, echoFrame};
-ghost use Rattle.rules.specs.Rules.{framing};
+ghost use Rattle.record.specs.Answer.{Meets};
+ghost use Rattle.record.specs.Guest.{spent};
+ghost use Rattle.base.specs.Buffer.{put as Buffer·put};
+ghost use Rattle.wire.specs.Rfc792.{echo};
+ghost use Rattle.rules.specs.Rfc792.{echoFrame};
+ghost use Rattle.record.specs.Answer.{framing};
 use crate::answers::no_room;
-use fields::eth_src;
-use fields::ip_src;
-use frames::Answer;
-use frames::Guest;
-use frames::Network;
+use base::put;
 use frames::make_ip_frame_in_place;
-use frames::put;
+use record::Answer;
+use record::Guest;
+use record::Network;
 use rules::payload_length;
 use sums::checksum;
+use wire::ethernet::eth_src;
+use wire::ipv4::ip_src;
 
 const IP_PROTO_ICMP: u8 = 1;
 

@@ -4,7 +4,7 @@ use mathlib.Core.List.{List}
 use mathlib.Core.Path.{_≡_, refl, ap, sym, _∙_}
 use lib.Dec.{eqb}
 use Rattle.blocks.specs.Bitmap.{bit}
-use Rattle.frames.specs.Pick.{pick}
+use mathlib.Core.Bool.{cond}
 use Rattle.fragments.specs.Answer.{paper}
 use Rattle.fragments.specs.Promises.{Effect, Does, Releases}
 use Rattle.fragments.specs.declared.answer.Answer.{Answer}
@@ -18,13 +18,13 @@ use Rattle.states.specs.Told.{numberOf}
 -- the answer, back from its number
 unfoldable answerOf : (number : ℕ) → Answer
 answerOf n =
-    pick (eqb n 20) Passed
-    (pick (eqb n 21) Stored
-    (pick (eqb n 22) Complete
-    (pick (eqb n 23) Released
-    (pick (eqb n 10) Unfit
-    (pick (eqb n 11) Held
-    (pick (eqb n 12) Overlap WrongEnd))))))
+    cond (eqb n 20) Passed
+    (cond (eqb n 21) Stored
+    (cond (eqb n 22) Complete
+    (cond (eqb n 23) Released
+    (cond (eqb n 10) Unfit
+    (cond (eqb n 11) Held
+    (cond (eqb n 12) Overlap WrongEnd))))))
 
 answer-back : (a : Answer) → answerOf (numberOf (paper a)) ≡ a
 unfolding answerOf numberOf paper

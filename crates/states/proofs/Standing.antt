@@ -1,19 +1,19 @@
 -- Where a call says the payload stands, it stands; and the words that a call leaves are read as the state that the store is in.
 use Prim.Native.Nat.{ℕ, _+_, _<_}
-use mathlib.Core.Bool.{Bool, true, false, not}
+use mathlib.Core.Bool.{Bool, true, false, not, cond}
 use mathlib.Core.List.{List, []}
 use mathlib.Core.Path.{_≡_, refl, ap, sym, _∙_}
 use native.Mathlib.Omega.{arith}
 use lib.Dec.{eqb, leb}
 use lib.ListN.{length, take, getD}
 use Rattle.blocks.specs.Bitmap.{bit, count}
-use Rattle.fields.specs.Bytes.{part}
-use Rattle.fields.specs.Rfc791.{headerLength}
-use Rattle.fields.specs.Rfc894.{body}
-use Rattle.frames.specs.Pick.{pick}
+use Rattle.base.specs.Bytes.{part}
+use Rattle.wire.specs.Rfc791.{headerLength}
+use Rattle.wire.specs.Rfc894.{body}
 use Rattle.fragments.specs.Answer.{Said, passed, stored, complete, released, refused, paper}
 use Rattle.fragments.specs.Promises.{Untouched, Does, Takes, Releases, payloadOf, wholePayload, storedPayload}
-use Rattle.fragments.specs.Rfc791.{sound, isWhole, goodLength, moreFragments, fragmentOffset, packetOf, payloadLength, fragmentOf}
+use Rattle.fragments.specs.Rfc791.{sound, isWhole, goodLength, packetOf, payloadLength, fragmentOf}
+use Rattle.wire.specs.Rfc791.{moreFragments, fragmentOffset}
 use Rattle.fragments.specs.Rules.{Outcome, blocksOf, ofSize, isHeld, overlaps, wrongEnd, knownEnd, endWith, ruling, packetRuling, partRuling, outcomeOf, settled}
 use Rattle.fragments.specs.declared.answer.Answer.{Answer}
 use Rattle.fragments.specs.declared.answer.Answer.the-variants as Answer
@@ -30,7 +30,7 @@ use Rattle.fragments.specs.declared.ruling.Ruling.{Ruling}
 use Rattle.fragments.specs.declared.ruling.Ruling.the-variants.{Refuse, Pass, Store}
 use Rattle.states.specs.Told.{numberOf, changes, placeOf, storedPlace, placedIn}
 
-either : (b : Bool) (after before : State) → after ≡ before → pick b after before ≡ after
+either : (b : Bool) (after before : State) → after ≡ before → cond b after before ≡ after
 either true after before e = refl
 either false after before e = sym e
 
@@ -58,13 +58,13 @@ settled-changes d (At end) there = either (eqb (count there 0 (blocksOf end)) (b
     short : Outcome
     short = record { said = stored; state = Filling d (At end) }
 
-    either : (b : Bool) → (changes (pick b filled short .said) ≡ true) × (passes (pick b filled short .said) ≡ false)
+    either : (b : Bool) → (changes (cond b filled short .said) ≡ true) × (passes (cond b filled short .said) ≡ false)
     either true = (refl, refl)
     either false = (refl, refl)
 
 -- what is done to a store without a new state leaves the state
 pub read-as : (r : Ruling) (state : State) (frame bytes words bytes′ words′ : List ℕ) (taken : Taken) → Does r state frame bytes words bytes′ words′ taken
-    → pick (changes (paper (taken .answer))) (taken .state) state ≡ taken .state
+    → cond (changes (paper (taken .answer))) (taken .state) state ≡ taken .state
 unfolding outcomeOf
 read-as (Refuse answer) state frame bytes words bytes′ words′ taken d = either (changes (paper (taken .answer))) (taken .state) state (d .next)
 read-as Pass state frame bytes words bytes′ words′ taken d = either (changes (paper (taken .answer))) (taken .state) state (d .next)
@@ -102,7 +102,7 @@ part-stays : (state : State) (there : ℕ → ℕ) (f : Fragment) → passes (ou
 unfolding partRuling outcomeOf passes paper
 part-stays state there f = tests (isHeld state (f .datagram)) (overlaps f there) (wrongEnd f (knownEnd state) there)
   where
-    tests : (held over wrong : Bool) → passes (outcomeOf state there (pick held (Refuse Answer.Held) (pick over (Refuse Answer.Overlap) (pick wrong (Refuse Answer.WrongEnd) (Store f (endWith f (knownEnd state)))))) .said) ≡ false
+    tests : (held over wrong : Bool) → passes (outcomeOf state there (cond held (Refuse Answer.Held) (cond over (Refuse Answer.Overlap) (cond wrong (Refuse Answer.WrongEnd) (Store f (endWith f (knownEnd state)))))) .said) ≡ false
     tests true over wrong = refl
     tests false true wrong = refl
     tests false false true = refl
@@ -118,7 +118,7 @@ passed-whole : (state : State) (frame : List ℕ) (n : ℕ) (words : List ℕ) �
 unfolding ruling outcomeOf passes paper
 passed-whole state frame n words e = by-size (not (ofSize n (length words))) (ap passes e)
   where
-    by-size : (wrong : Bool) → passes (outcomeOf state (bit words) (pick wrong (Refuse Answer.Unfit) (packetRuling state (bit words) (packetOf frame))) .said) ≡ true
+    by-size : (wrong : Bool) → passes (outcomeOf state (bit words) (cond wrong (Refuse Answer.Unfit) (packetRuling state (bit words) (packetOf frame))) .said) ≡ true
         → isWholePacket (packetOf frame) ≡ true
     by-size true p = let z : _≡_ {A = ℕ} 0 1 = cc in absurd (omega arith)
     by-size false p = sym (whole-passes state (bit words) (packetOf frame)) ∙ p
@@ -132,8 +132,8 @@ whole-stands frame = tests (not (sound frame)) (isWhole (body frame)) (not (good
     there = Whole (14 + headerLength (body frame)) (payloadLength (body frame))
 
     tests : (unsound whole bad far : Bool)
-        → isWholePacket (pick unsound Unfit (pick whole there (pick bad Unfit (pick far Unfit (Part (fragmentOf (body frame))))))) ≡ true
-        → pick unsound Unfit (pick whole there (pick bad Unfit (pick far Unfit (Part (fragmentOf (body frame)))))) ≡ there
+        → isWholePacket (cond unsound Unfit (cond whole there (cond bad Unfit (cond far Unfit (Part (fragmentOf (body frame))))))) ≡ true
+        → cond unsound Unfit (cond whole there (cond bad Unfit (cond far Unfit (Part (fragmentOf (body frame)))))) ≡ there
     tests true whole bad far e = let z : _≡_ {A = ℕ} 0 1 = cc in absurd (omega arith)
     tests false true bad far e = refl
     tests false false true far e = let z : _≡_ {A = ℕ} 0 1 = cc in absurd (omega arith)
@@ -148,7 +148,7 @@ stored-stands bytes Empty = refl
 stored-stands bytes (Filling d end) = refl
 stored-stands bytes (Complete d n) = within (leb n (length bytes))
   where
-    within : (b : Bool) → take (pick b n 0) bytes ≡ pick b (take n bytes) []
+    within : (b : Bool) → take (cond b n 0) bytes ≡ cond b (take n bytes) []
     within true = refl
     within false = refl
 
@@ -175,10 +175,10 @@ payload-stands state frame bytes words bytes′ words′ taken d = by-answer (ta
 
 -- and after a release, the state
 pub released-as : (state : State) (bytes words words′ : List ℕ) (taken : Taken) → Releases state bytes words words′ taken
-    → pick (changes (paper (taken .answer))) (taken .state) state ≡ taken .state
+    → cond (changes (paper (taken .answer))) (taken .state) state ≡ taken .state
 released-as state bytes words words′ taken r = by-size (ofSize (length bytes) (length words)) (r .answers) (r .next)
   where
-    by-size : (b : Bool) → paper (taken .answer) ≡ pick b released (refused 10) → taken .state ≡ pick b Empty state
-        → pick (changes (paper (taken .answer))) (taken .state) state ≡ taken .state
+    by-size : (b : Bool) → paper (taken .answer) ≡ cond b released (refused 10) → taken .state ≡ cond b Empty state
+        → cond (changes (paper (taken .answer))) (taken .state) state ≡ taken .state
     by-size true said next = simp (ap changes said ∙ released-changes)
     by-size false said next = either (changes (paper (taken .answer))) (taken .state) state next

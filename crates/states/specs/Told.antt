@@ -1,12 +1,11 @@
 -- What C is told of a call on a store: a number, the words that it keeps, and where the payload stands.
 use Prim.Native.Nat.{ℕ, _+_}
-use mathlib.Core.Bool.{Bool, true, false}
+use mathlib.Core.Bool.{Bool, true, false, cond}
 use mathlib.Core.List.{List, [], _∷_}
 use mathlib.Core.Path.{_≡_}
 use lib.Dec.{leb}
-use Rattle.fields.specs.Rfc791.{headerLength}
-use Rattle.fields.specs.Rfc894.{body}
-use Rattle.frames.specs.Pick.{pick}
+use Rattle.wire.specs.Rfc791.{headerLength}
+use Rattle.wire.specs.Rfc894.{body}
 use Rattle.fragments.specs.Answer.{Said, passed, stored, complete, released, refused, paper}
 use Rattle.fragments.specs.Rfc791.{payloadLength}
 use Rattle.fragments.specs.declared.answer.Answer.{Answer}
@@ -35,12 +34,12 @@ changes (refused number) = false
 -- The promise of telling what came of a call: its number; the words of the new state, or else the words exactly as they were; and that they are read as it.
 pub record Tells (words words′ : List ℕ) (taken : Taken) (number : ℕ) : Type 0 where
   pub numbered : number ≡ numberOf (paper (taken .answer))
-  pub written : words′ ≡ pick (changes (paper (taken .answer))) (wordsOf (taken .state)) words
-  pub read : stateOf words′ ≡ pick (changes (paper (taken .answer))) (taken .state) (stateOf words)
+  pub written : words′ ≡ cond (changes (paper (taken .answer))) (wordsOf (taken .state)) words
+  pub read : stateOf words′ ≡ cond (changes (paper (taken .answer))) (taken .state) (stateOf words)
 
 -- in a complete store the payload is the first bytes; a state that tells more than are lent hands out none
 unfoldable pub storedPlace : (lent : ℕ) → State → List ℕ
-storedPlace lent (Complete d length) = 0 ∷ pick (leb length lent) length 0 ∷ []
+storedPlace lent (Complete d length) = 0 ∷ cond (leb length lent) length 0 ∷ []
 storedPlace lent Empty = 0 ∷ 0 ∷ []
 storedPlace lent (Filling d end) = 0 ∷ 0 ∷ []
 

@@ -3,7 +3,7 @@ use Prim.Native.Nat.{ℕ, _%_, _<_}
 use mathlib.Core.List.{List, [], _∷_}
 use lib.Dec.{eqb}
 use lib.ListN.{getD}
-use Rattle.frames.specs.Pick.{pick}
+use mathlib.Core.Bool.{cond}
 use Rattle.fragments.specs.declared.answer.Datagram.{Datagram}
 use Rattle.fragments.specs.declared.answer.End.{End}
 use Rattle.fragments.specs.declared.answer.End.the-variants.{Unknown, At}
@@ -26,9 +26,9 @@ endIn words = getD words 5 0 % 65536
 -- 0 empty, 1 filling, 2 filling with the end known; every other phase is complete: what is not known to be free is held until it is released
 unfoldable pub stateOf : (words : List ℕ) → State
 stateOf words =
-    pick (eqb (getD words 0 0) 0) Empty
-    (pick (eqb (getD words 0 0) 1) (Filling (datagramIn words) Unknown)
-    (pick (eqb (getD words 0 0) 2) (Filling (datagramIn words) (At (endIn words)))
+    cond (eqb (getD words 0 0) 0) Empty
+    (cond (eqb (getD words 0 0) 1) (Filling (datagramIn words) Unknown)
+    (cond (eqb (getD words 0 0) 2) (Filling (datagramIn words) (At (endIn words)))
     (Complete (datagramIn words) (endIn words))))
 
 -- the words of a phase, a datagram and an end

@@ -3,16 +3,16 @@ ghost use mathlib.Core.List.{[], _∷_};
 ghost use mathlib.Core.Path.{_≡_};
 ghost use Prim.Native.Nat.{_+_};
 ghost use lib.Dec.{leb};
-ghost use Rattle.fields.specs.Rfc791.{headerLength};
-ghost use Rattle.fields.specs.Rfc894.{body};
-ghost use Rattle.frames.specs.Pick.{pick};
+ghost use Rattle.wire.specs.Rfc791.{headerLength};
+ghost use Rattle.wire.specs.Rfc894.{body};
+ghost use mathlib.Core.Bool.{cond};
 ghost use Rattle.fragments.specs.Rfc791.{payloadLength};
 ghost use Rattle.states.specs.Told.{placeOf, storedPlace};
-use fields::ip_hlen;
-use fields::u16be;
 use fragments::Answer;
 use fragments::State;
 use fragments::Taken;
+use wire::bytes::u16be;
+use wire::ipv4::ip_hlen;
 
 const ETHERNET_HEADER: usize = 14;
 
@@ -67,7 +67,7 @@ fn in_store(state: State, lent: usize) -> [usize; 2]
 }
 
 fn first(length: usize, lent: usize) -> [usize; 2]
-    ensures { λ r. ⌜ r ≡ 0 ∷ pick (leb length lent) length 0 ∷ [] ⌝ }
+    ensures { λ r. ⌜ r ≡ 0 ∷ cond (leb length lent) length 0 ∷ [] ⌝ }
 {
     if lent < length {
         return NOWHERE;

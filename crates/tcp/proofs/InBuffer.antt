@@ -4,10 +4,10 @@ use mathlib.Core.Path.{_≡_}
 use mathlib.Core.List.{List, [], _∷_}
 use lib.ListN.{length, take, drop}
 use Rattle.sums.specs.Rfc1071.{SumsRight}
-use Rattle.frames.specs.Answer.{paper, Meets, spending}
-use Rattle.frames.specs.declared.answer.Guest.{Guest}
-use Rattle.frames.specs.declared.answer.Answer.{Answer}
-use Rattle.frames.proofs.InBuffer.{InBuffer, in-buffer}
+use Rattle.record.specs.Answer.{paper, Meets, spending}
+use Rattle.record.specs.declared.guest.Guest.{Guest}
+use Rattle.record.specs.declared.answer.Answer.{Answer}
+use Rattle.record.proofs.InBuffer.{InBuffer, in-buffer}
 use Rattle.tcp.specs.Builders.{makeTcpFrame, dataLimit}
 use Rattle.tcp.specs.Rfc9293.{options, covered, tcpFrame}
 use Rattle.tcp.specs.declared.Endpoints.{Endpoints}

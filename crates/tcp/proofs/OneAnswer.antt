@@ -3,10 +3,10 @@ use Prim.Native.Nat.{ℕ}
 use mathlib.Core.Path.{_≡_}
 use mathlib.Core.List.{List}
 use lib.ListN.{length}
-use Rattle.frames.specs.Answer.{Meets}
-use Rattle.frames.specs.declared.answer.Guest.{Guest}
-use Rattle.frames.specs.declared.answer.Answer.{Answer}
-use Rattle.frames.proofs.OneAnswer.{one-outcome}
+use Rattle.record.specs.Answer.{Meets}
+use Rattle.record.specs.declared.guest.Guest.{Guest}
+use Rattle.record.specs.declared.answer.Answer.{Answer}
+use Rattle.record.proofs.OneAnswer.{one-outcome}
 use Rattle.tcp.specs.Builders.{makeTcpFrame}
 use Rattle.tcp.specs.declared.Endpoints.{Endpoints}
 

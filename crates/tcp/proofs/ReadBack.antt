@@ -4,8 +4,8 @@ use mathlib.Core.Path.{_≡_, refl}
 use mathlib.Core.List.{List}
 use native.Mathlib.Omega.{arith}
 use lib.ListN.{length, drop}
-use Rattle.fields.specs.Rfc894.{body}
-use Rattle.fields.specs.Rfc9293 as Tcp
+use Rattle.wire.specs.Rfc894.{body}
+use Rattle.wire.specs.Rfc9293 as Tcp
 use Rattle.frames.proofs.Lengths.{drop-34}
 use Rattle.frames.proofs.ReadBack.{PacketOf, frame-reads-back}
 use Rattle.tcp.specs.Rfc9293.{options, segment, summedHeader, segmentHeader, tcpFrame}

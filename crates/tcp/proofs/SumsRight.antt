@@ -4,10 +4,10 @@ use mathlib.Core.Path.{_≡_, refl}
 use mathlib.Core.List.{List, _++_, append-assoc}
 use native.Mathlib.Omega.{arith}
 use lib.ListN.{length, drop, length-append}
-use Rattle.fields.specs.Bytes.{part}
+use Rattle.base.specs.Bytes.{part}
 use Rattle.sums.specs.Rfc1071.{words, sum, total, checksum, SumsRight}
 use Rattle.sums.proofs.Laws.{total-append}
-use Rattle.frames.specs.Rfc768.{pseudoHeader}
+use Rattle.wire.specs.Rfc768.{pseudoHeader}
 use Rattle.frames.proofs.Lengths.{drop-34}
 use Rattle.frames.proofs.SumsRight.{sums-right, frame-header-sums-right}
 use Rattle.tcp.specs.Rfc9293.{options, segmentHeader, summedHeader, segment, covered, tcpFrame}

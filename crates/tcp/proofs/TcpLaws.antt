@@ -1,13 +1,12 @@
 -- Laws of a segment's pieces: what the SYN flag decides, and how long each piece is.
 use Prim.Native.Nat.{ℕ, _+_, _*_, _/_, _%_, _<_}
 use mathlib.Core.Path.{_≡_, refl, ap, _∙_}
-use mathlib.Core.Bool.{Bool, true, false}
+use mathlib.Core.Bool.{Bool, true, false, cond}
 use mathlib.Core.List.{List, []}
 use native.Mathlib.Omega.{arith}
 use borrow.Author.Tests.{eq-eqb, ne-eqb}
 use lib.ListN.{length, take, length-append}
 use lib.Bits.{bitAnd, and-high}
-use Rattle.frames.specs.Pick.{pick}
 use Rattle.tcp.specs.Rfc9293.{synSet, options, synOptions, segment, summedHeader, segmentHeader, tcpFrame}
 use Rattle.frames.proofs.Lengths.{length-ipFrame}
 use Rattle.tcp.specs.Builders.{dataLimit}
@@ -31,7 +30,7 @@ pub syn-cases : (P : List ℕ → ℕ → Type 0) (flags : ℕ) → P synOptions
 unfolding options dataLimit
 syn-cases P flags with-options with-none = go (synSet flags)
   where
-    go : (b : Bool) → P (pick b synOptions []) (pick b 65487 65495)
+    go : (b : Bool) → P (cond b synOptions []) (cond b 65487 65495)
     go true = with-options
     go false = with-none
 

@@ -2,15 +2,15 @@
 use Prim.Native.Nat.{ℕ, _+_}
 use mathlib.Core.List.{List}
 use lib.ListN.{length}
-use Rattle.frames.specs.Answer.{Outcome, spending}
-use Rattle.frames.specs.Pick.{pick}
-use Rattle.frames.specs.declared.answer.Guest.{Guest}
+use Rattle.record.specs.Answer.{Outcome, spending}
+use mathlib.Core.Bool.{cond}
+use Rattle.record.specs.declared.guest.Guest.{Guest}
 use Rattle.tcp.specs.Rfc9293.{synSet, options, tcpFrame}
 use Rattle.tcp.specs.declared.Endpoints.{Endpoints}
 
 -- TCP: "Data over 65,495, or 65,487 with options: 6"
 unfoldable pub dataLimit : (flags : ℕ) → ℕ
-dataLimit flags = pick (synSet flags) 65487 65495
+dataLimit flags = cond (synSet flags) 65487 65495
 
 abbrev pub makeTcpFrame : Guest → Endpoints → (seq ack flags : ℕ) (body : List ℕ) (room : ℕ) → Outcome
 makeTcpFrame guest ends seq ack flags body room =

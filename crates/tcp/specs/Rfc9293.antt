@@ -3,12 +3,11 @@ use Prim.Native.Nat.{ℕ, _+_, _*_, _/_, _%_}
 use mathlib.Core.List.{List, [], _∷_, _++_}
 use lib.ListN.{length}
 use lib.Dec.{eqb}
-use mathlib.Core.Bool.{Bool}
-use Rattle.frames.specs.Pick.{pick}
-use Rattle.fields.specs.Bytes.{be16, be32}
+use mathlib.Core.Bool.{Bool, cond}
+use Rattle.base.specs.Bytes.{be16, be32}
 use Rattle.sums.specs.Rfc1071.{checksum}
-use Rattle.frames.specs.Rfc768.{pseudoHeader}
-use Rattle.frames.specs.Rfc791.{ipFrame}
+use Rattle.wire.specs.Rfc768.{pseudoHeader}
+use Rattle.frames.specs.Frames.{ipFrame}
 use Rattle.tcp.specs.declared.Endpoints.{Endpoints}
 
 -- bit 0x02 of the flags: the control bit SYN
@@ -20,7 +19,7 @@ abbrev pub synOptions : List ℕ
 synOptions = 0x02 ∷ 0x04 ∷ 0x05 ∷ 0xb4 ∷ 0x01 ∷ 0x03 ∷ 0x03 ∷ 0x07 ∷ []
 
 unfoldable pub options : (flags : ℕ) → List ℕ
-options flags = pick (synSet flags) synOptions []
+options flags = cond (synSet flags) synOptions []
 
 -- the header up to its options, with `csum` in the checksum field
 unfoldable pub segmentHeader : (csum source target seq ack flags : ℕ) → List ℕ

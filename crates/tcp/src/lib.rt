@@ -4,19 +4,19 @@ ghost use mathlib.Core.Path.{_≡_};
 ghost use mathlib.Core.List.{_++_};
 ghost use Prim.Native.Nat.{_+_, _%_, _≤_};
 ghost use lib.ListN.{length};
-ghost use Rattle.frames.specs.Answer.{Meets};
-ghost use Rattle.frames.specs.Buffer.{put as Buffer·put};
+ghost use Rattle.record.specs.Answer.{Meets};
+ghost use Rattle.base.specs.Buffer.{put as Buffer·put};
 ghost use Rattle.tcp.specs.Builders.{dataLimit, makeTcpFrame};
 ghost use Rattle.sums.specs.Rfc1071.{checksum as Rfc1071·checksum};
 ghost use Rattle.tcp.specs.Rfc9293.{covered, segment, segmentHeader, summedHeader, options as Rfc9293·options};
-use fields::be32;
-use frames::Answer;
-use frames::Guest;
-use frames::Verdict;
+use base::put;
 use frames::make_ip_frame_in_place;
-use frames::pseudo_header;
-use frames::put;
+use record::Answer;
+use record::Guest;
+use record::Verdict;
 use sums::sum;
+use wire::bytes::be32;
+use wire::udp::pseudo_header;
 
 // Who speaks to whom; `dst_mac` is the guest's.
 pub struct Endpoints {

@@ -2,8 +2,8 @@
 // A line has the bytes of one as pieces: 00 LENGTH(2) BYTES, or 01 LENGTH(2) FIRST STEP BEND, which is a
 // run of bytes, each the one before it and a step that starts as STEP and grows by BEND.
 ghost use Prim.Native.Nat.{_≤_};
-use fields::byte_at;
-use fields::u16be;
+use wire::bytes::byte_at;
+use wire::bytes::u16be;
 
 // How many items there are, and how much of the pool they fill.
 pub struct Items {

@@ -9,8 +9,8 @@ use crate::items::Items;
 use crate::replays;
 use crate::rows;
 use crate::spaces;
-use fields::byte_at;
 use vectors::Tally;
+use wire::bytes::byte_at;
 
 // The count so far, and the train that is listed.
 pub struct Run {

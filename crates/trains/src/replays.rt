@@ -7,11 +7,11 @@ use crate::calls::Wanted;
 use crate::items;
 use crate::items::Items;
 use crate::rows;
-use fields::byte_at;
-use fields::u16be;
 use fragments::Datagram;
 use fragments::State;
 use vectors::Tally;
+use wire::bytes::byte_at;
+use wire::bytes::u16be;
 
 // The calls counted so far, what the last one left, and whether all agreed and could be read.
 pub struct Replay {

@@ -1,7 +1,7 @@
 -- Reading a line's characters one by one: what was read and what is left make up the whole.
 use Prim.Native.Nat.{ℕ, zero, suc, _+_, _*_, _-_, _≤_, _<_}
 use mathlib.Core.Path.{_≡_, refl, _∙_}
-use mathlib.Core.Bool.{Bool, true, false}
+use mathlib.Core.Bool.{Bool, true, false, cond}
 use mathlib.Core.List.{List, [], _∷_, _++_, append-assoc, append-nil}
 use native.Mathlib.Numerals.{add-one}
 use native.Mathlib.Nat.{sub-zero}
@@ -10,13 +10,12 @@ use lib.Dec.{eqb}
 use lib.ListN.{length, take, drop, getD, set, length-set, drop-of-length-le}
 use lib.Seq.{drop-cons, take-suc-set, length-take-le}
 use borrow.Author.Tests.{eq-eqb, ne-eqb, eqb-false, lt-ltb}
-use Rattle.vectors.specs.Pick.{pick}
 use Rattle.vectors.specs.Lines.{digit, digits, pairs, areBytes, bytesOf, readOf, ReadInto}
 use Rattle.vectors.specs.declared.lines.Read.{Read}
 
 -- the first digit of a byte, where one waits for its second
 unfoldable pub waiting : ℕ → List ℕ
-waiting high = pick (eqb high 16) [] (high ∷ [])
+waiting high = cond (eqb high 16) [] (high ∷ [])
 
 -- the digits that are still to make bytes
 unfoldable pub left : ℕ → List ℕ → List ℕ

@@ -1,4 +1,3 @@
-pub mod Pick
 pub mod Slices
 pub mod Lines
 pub mod Count

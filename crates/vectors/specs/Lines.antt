@@ -1,12 +1,11 @@
 -- A line of text as bytes: two hexadecimal digits to a byte. Spaces count for nothing, and `#` starts a comment.
 use Prim.Native.Nat.{ℕ, zero, suc, _+_, _*_, _-_, _≤_, _<_, min}
 use mathlib.Core.Path.{_≡_}
-use mathlib.Core.Bool.{Bool, true, false, _&&_}
+use mathlib.Core.Bool.{Bool, true, false, _&&_, cond}
 use mathlib.Core.List.{List, [], _∷_}
 use lib.ListN.{length, take, drop}
 use lib.Dec.{leb, ltb, eqb}
 use Rattle.bytes.specs.Bytes.{indexOf}
-use Rattle.vectors.specs.Pick.{pick}
 use Rattle.vectors.specs.declared.lines.Line.{Line}
 use Rattle.vectors.specs.declared.lines.Read.{Read}
 
@@ -24,12 +23,12 @@ nextLine text at = min (at + indexOf 10 (drop at text) + 1) (length text)
 
 -- the value of a digit, `0` to `9` or `a` to `f`; 16 for another character
 unfoldable pub digit : ℕ → ℕ
-digit c = pick (leb 48 c && leb c 57) (c - 48) (pick (leb 97 c && leb c 102) (c - 87) 16)
+digit c = cond (leb 48 c && leb c 57) (c - 48) (cond (leb 97 c && leb c 102) (c - 87) 16)
 
 -- the values of characters, without spaces
 unfoldable pub digits : List ℕ → List ℕ
 digits [] = []
-digits (c ∷ t) = pick (eqb c 32) (digits t) (digit c ∷ digits t)
+digits (c ∷ t) = cond (eqb c 32) (digits t) (digit c ∷ digits t)
 
 -- the bytes of digits, two by two
 unfoldable pub pairs : List ℕ → List ℕ
@@ -46,7 +45,7 @@ areBytes (suc room) (h ∷ l ∷ t) = ltb h 16 && (ltb l 16 && areBytes room t)
 
 -- the bytes of a line's characters: none where they are no bytes
 unfoldable pub bytesOf : ℕ → List ℕ → List ℕ
-bytesOf room signs = pick (areBytes room (digits signs)) (pairs (digits signs)) []
+bytesOf room signs = cond (areBytes room (digits signs)) (pairs (digits signs)) []
 
 -- what there is to say of a line's characters
 unfoldable pub readOf : ℕ → List ℕ → Read

@@ -7,7 +7,7 @@ use mathlib.Core.List.{List}
 use native.Mathlib.Omega.{arith}
 use native.Mathlib.Nat.{pos-of-ne-zero}
 use lib.ListN.{length, drop}
-use Rattle.fields.specs.Bytes.{u8At}
+use Rattle.base.specs.Bytes.{u8At}
 use Rattle.messages.specs.Messages.{AllZero, Listed}
 use Rattle.messages.proofs.Telling.{tells-not, tells-yes}
 use Rattle.messages.proofs.Listing.{past, end-refused, end-taken, pad-on, option-cut, option-over, other-on, second-type, type-length, type-small, type-large, type-on}
@@ -19,7 +19,7 @@ use Rattle.messages.proofs.+read_item+read_list.Lts-read_item as read-i
 use Rattle.messages.proofs.read_list.Reads as read-list
 use Rattle.messages.proofs.read_list.Kinds as read-list-kinds
 use Rattle.messages.proofs.+read_item+read_list.Lts-read_list as read-list-lts
-use Rattle.fields.proofs.byte_at.Reads as byte-at-reads
+use Rattle.wire.proofs.bytes.byte_at.Reads as byte-at-reads
 use Rattle.messages.proofs.zeros.Reads as zeros-reads
 use Rattle.messages.proofs.+read_item+read_list.{statement}
 use Rattle.messages.proofs.+read_item+read_list.Tie.{close}

@@ -8,7 +8,7 @@ use borrow.Author.Needs.{needs}
 use borrow.Author.Tests.{leb-true, leb-false}
 use lib.ListN.{length}
 use Rattle.options.specs.Rfc2132.{decides, walk}
-use Rattle.fields.specs.Bytes.{u8At}
+use Rattle.base.specs.Bytes.{u8At}
 use Rattle.options.proofs.Sentences.{another-code, no-value}
 use Rattle.options.proofs.Places.{walkAt, past-end, at-255, at-0, at-last, at-other, at-type, at-cut}
 use Rattle.options.proofs.message_type.Statement.{statement}

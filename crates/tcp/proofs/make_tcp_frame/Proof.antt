@@ -3,7 +3,7 @@ use mathlib.Core.Path.{sym, _∙_}
 use native.Mathlib.Omega.{arith}
 use lib.ListN.{length-map}
 use Rattle.tcp.specs.Rfc9293.{segment, tcpFrame}
-use Rattle.frames.proofs.Built.{refused-too-long, refused-no-room}
+use Rattle.record.proofs.Built.{refused-too-long, refused-no-room}
 use Rattle.frames.proofs.Framed.{framed-there}
 use Rattle.tcp.proofs.TcpLaws.{limit-holds, length-segment}
 use borrow.Author.Needs.{needs}

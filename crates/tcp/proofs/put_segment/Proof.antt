@@ -5,7 +5,7 @@ use mathlib.Core.List.{List, _++_}
 use native.Mathlib.Omega.{arith}
 use lib.ListN.{take}
 use lib.Seq.{length-take-le}
-use Rattle.frames.specs.Buffer.{put}
+use Rattle.base.specs.Buffer.{put}
 use Rattle.tcp.specs.Rfc9293.{synOptions, segment}
 use Rattle.tcp.proofs.TcpLaws.{options-take}
 use borrow.Author.Needs.{needs}

@@ -4,8 +4,8 @@ use mathlib.Core.Path.{ap, _∙_}
 use native.Mathlib.Omega.{arith}
 use borrow.Author.Needs.{needs}
 use lib.ListN.{length}
-use Rattle.frames.specs.Buffer.{put}
-use Rattle.frames.proofs.Lists.{fits, put-put, put-behind}
+use Rattle.base.specs.Buffer.{put}
+use Rattle.base.proofs.Lists.{fits, put-put, put-behind}
 use Rattle.tcp.proofs.put_three.Statement.{statement}
 use Rattle.tcp.proofs.put_three.Tie as tie
 

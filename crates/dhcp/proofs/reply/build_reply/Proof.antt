@@ -2,9 +2,9 @@
 use Prim.Native.Nat.{ℕ}
 use mathlib.Core.List.{List}
 use mathlib.Core.Path.{ap, ap₂, _∙_}
-use Rattle.frames.specs.Buffer.{put}
-use Rattle.frames.proofs.Fitting.{does-not-fit, does-fit}
-use Rattle.frames.proofs.Lists.{put-front}
+use Rattle.base.specs.Buffer.{put}
+use Rattle.record.proofs.Fitting.{does-not-fit, does-fit}
+use Rattle.base.proofs.Lists.{put-front}
 use Rattle.dhcp.specs.Rfc2131.{reply}
 use Rattle.dhcp.specs.Pieces.{written}
 use Rattle.dhcp.proofs.Pieces.{reply-pieces}

@@ -1,6 +1,6 @@
 -- `reply::first_fields` meets its contract: each address is its bytes.
 use native.Mathlib.Omega.{arith}
-use Rattle.frames.proofs.Lists.{all-bytes}
+use Rattle.base.proofs.Lists.{all-bytes}
 use borrow.Author.Needs.{needs}
 use Rattle.dhcp.proofs.reply.first_fields.Statement.{statement}
 use Rattle.dhcp.proofs.reply.first_fields.Tie as tie

@@ -1,7 +1,7 @@
 -- `reply::put_row` meets its contract: a row of four bytes behind its code and its length is an option.
 use mathlib.Core.Path.{_∙_}
 use native.Mathlib.Omega.{arith}
-use Rattle.frames.proofs.Lists.{all-bytes}
+use Rattle.base.proofs.Lists.{all-bytes}
 use borrow.Author.Needs.{needs}
 use Rattle.dhcp.proofs.reply.put_row.Statement.{statement}
 use Rattle.dhcp.proofs.reply.put_row.Tie as tie

@@ -7,7 +7,7 @@ use borrow.Author.Tests.{eq-eqb, ne-eqb, le-leb, lt-leb}
 use lib.Dec.{eqb}
 use lib.ListN.{length, take, length-take}
 use Rattle.sums.specs.Rfc1071.{total, fold}
-use Rattle.fields.specs.Rfc791.{version, headerLength, totalLength}
+use Rattle.wire.specs.Rfc791.{version, headerLength, totalLength}
 use Rattle.fragments.specs.Rfc791.{soundHeader}
 use borrow.Author.Needs.{needs}
 use Rattle.fragments.proofs.packet.has_sound_header.Statement.{statement}

@@ -2,7 +2,7 @@
 use mathlib.Core.Path.{_≡_, sym, ap, _∙_}
 use borrow.Author.Tests.{eq-eqb, ne-eqb, le-leb, lt-leb}
 use lib.ListN.{length}
-use Rattle.fields.specs.Rfc894.{body, typeOf}
+use Rattle.wire.specs.Rfc894.{body, typeOf}
 use Rattle.fragments.specs.Rfc791.{sound, soundHeader}
 use borrow.Author.Needs.{needs}
 use Rattle.fragments.proofs.Slices.{rest-of}

@@ -6,9 +6,10 @@ use mathlib.Core.Path.{_≡_, sym, ap, ap₂, _∙_}
 use native.Mathlib.Omega.{arith}
 use borrow.Author.Tests.{not-true, not-false, le-leb, lt-leb}
 use lib.ListN.{length}
-use Rattle.fields.specs.Rfc791.{headerLength, totalLength}
-use Rattle.fields.specs.Rfc894.{body}
-use Rattle.fragments.specs.Rfc791.{sound, packetOf, isWhole, goodLength, moreFragments, fragmentOffset, payloadLength, datagramOf, fragmentOf}
+use Rattle.wire.specs.Rfc791.{headerLength, totalLength}
+use Rattle.wire.specs.Rfc894.{body}
+use Rattle.fragments.specs.Rfc791.{sound, packetOf, isWhole, goodLength, payloadLength, datagramOf, fragmentOf}
+use Rattle.wire.specs.Rfc791.{moreFragments, fragmentOffset}
 use Rattle.fragments.specs.declared.answer.Datagram.{Datagram}
 use Rattle.fragments.specs.declared.packet.Packet.the-variants.{Unfit, Whole, Part}
 use Rattle.fragments.proofs.Fitting.{lengths}

@@ -1,10 +1,9 @@
 -- `release` meets its contract.
-use mathlib.Core.Bool.{true, false}
+use mathlib.Core.Bool.{true, false, cond}
 use Prim.Native.Nat.{ℕ}
 use mathlib.Core.Path.{_≡_, sym, ap, _∙_}
 use borrow.Author.Tests.{not-true, not-false}
 use lib.ListN.{length, replicate}
-use Rattle.frames.specs.Pick.{pick}
 use Rattle.fragments.specs.Rules.{ofSize}
 use Rattle.fragments.specs.Answer.{paper}
 use borrow.Author.Needs.{needs}
@@ -26,7 +25,7 @@ returns-2 c =
     let a = c .before .before .before .before .before .before .before .before .args in
     let e : ofSize (length (a .bytes .now)) (length (a .bits .now)) ≡ true =
     sym (c .before .before .before .before .before .is-of-size .ensures) ∙ not-false (c .before .before .before .before .before .is-of-size .result) (c .before .before .before .before .if1 .left) in
-    let cleared : pick (ofSize (length (a .bytes .now)) (length (a .bits .now))) (replicate 128 0) (a .bits .now) ≡ replicate 128 0 = simp e in
+    let cleared : cond (ofSize (length (a .bytes .now)) (length (a .bits .now))) (replicate 128 0) (a .bits .now) ≡ replicate 128 0 = simp e in
     record { answers = simp e; next = simp e; bits = c .before .before .clear .ensures ∙ ap (λ (n : ℕ). replicate n 0) (of-size _ _ e .1) ∙ sym cleared }
 
 pub release-spec : {M : Type 1} → statement M

@@ -1,7 +1,7 @@
 -- `ipv4::ethernet_header` meets its contract: byte by byte the literal is the definition.
 use native.Mathlib.Omega.{arith}
 use borrow.Author.Needs.{needs}
-use Rattle.frames.proofs.Lists.{all-bytes}
+use Rattle.base.proofs.Lists.{all-bytes}
 use Rattle.frames.proofs.ipv4.ethernet_header.Statement.{statement}
 use Rattle.frames.proofs.ipv4.ethernet_header.Tie as tie
 

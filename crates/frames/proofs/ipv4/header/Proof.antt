@@ -3,7 +3,7 @@ use Prim.Native.Nat.{ℕ}
 use mathlib.Core.Path.{ap, _∙_}
 use borrow.Author.Needs.{needs}
 use Rattle.sums.specs.Rfc1071.{checksum}
-use Rattle.frames.specs.Rfc791.{header, headerWith}
+use Rattle.wire.specs.Rfc791.{header, headerWith}
 use Rattle.frames.proofs.ipv4.header.Statement.{statement}
 use Rattle.frames.proofs.ipv4.header.Tie as tie
 
@@ -16,5 +16,4 @@ returns c =
 pub header-spec : {M : Type 1} → statement M
 header-spec =
     tie.close
-    (tie.spec (λ c. search needs) (λ c κs. search needs) (λ c. search needs) (λ c κs. search needs)
-    (λ c. search needs) (λ c κs. search needs) returns)
+    (tie.spec (λ c κs. search needs) (λ c. search needs) (λ c κs. search needs) (λ c κs. search needs) returns)

@@ -1,8 +1,8 @@
 -- `ipv4::header_with` meets its contract: byte by byte the literal is the definition.
 use native.Mathlib.Omega.{arith}
 use borrow.Author.Needs.{needs}
-use Rattle.frames.specs.Rfc791.{headerWith}
-use Rattle.frames.proofs.Lists.{all-bytes}
+use Rattle.wire.specs.Rfc791.{headerWith}
+use Rattle.base.proofs.Lists.{all-bytes}
 use Rattle.frames.proofs.ipv4.header_with.Statement.{statement}
 use Rattle.frames.proofs.ipv4.header_with.Tie as tie
 

@@ -2,17 +2,17 @@
 use mathlib.Core.Path.{refl, _∙_}
 use native.Mathlib.Omega.{arith}
 use borrow.Author.Needs.{needs}
-use Rattle.frames.proofs.Lists.{fits}
+use Rattle.base.proofs.Lists.{fits}
 use Rattle.frames.proofs.Framed.{framed-there}
-use Rattle.frames.proofs.Built.{refused-too-long, refused-no-room}
+use Rattle.record.proofs.Built.{refused-too-long, refused-no-room}
 use Rattle.frames.proofs.ipv4.make_ip_frame.Statement.{statement}
 use Rattle.frames.proofs.ipv4.make_ip_frame.Tie as tie
 
 returns : tie.Need-returns
-returns c = rw (c .refused .ensures) (refused-too-long _ _ _ _ _ _ _ (c .before .if1 .taken))
+returns c = rw (c .answer .ensures) (refused-too-long _ _ _ _ _ _ _ (c .before .if1 .taken))
 
 returns-2 : tie.Need-returns-2
-returns-2 c = rw (c .refused2 .ensures) (refused-no-room _ _ _ _ _ _ _ _ (omega arith) (c .before .before .if1 .left) (c .before .if2 .taken))
+returns-2 c = rw (c .answer2 .ensures) (refused-no-room _ _ _ _ _ _ _ _ (omega arith) (c .before .before .if1 .left) (c .before .if2 .taken))
 
 returns-3 : tie.Need-returns-3
 returns-3 c =

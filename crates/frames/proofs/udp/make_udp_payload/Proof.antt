@@ -5,10 +5,10 @@ use mathlib.Core.List.{List, _++_}
 use native.Mathlib.Omega.{arith}
 use borrow.Author.Needs.{needs}
 use lib.ListN.{length}
-use Rattle.frames.specs.Buffer.{put}
-use Rattle.frames.specs.Rfc768.{datagram, datagramHeader}
-use Rattle.frames.proofs.Lists.{fits, put-put, put-front}
-use Rattle.frames.proofs.Built.{too-long, no-room, written}
+use Rattle.base.specs.Buffer.{put}
+use Rattle.wire.specs.Rfc768.{datagram, datagramHeader}
+use Rattle.base.proofs.Lists.{fits, put-put, put-front}
+use Rattle.record.proofs.Built.{too-long, no-room, written}
 use Rattle.frames.proofs.udp.make_udp_payload.Statement.{statement}
 use Rattle.frames.proofs.udp.make_udp_payload.Tie as tie
 

@@ -2,7 +2,7 @@
 use mathlib.Core.Path.{ap}
 use native.Mathlib.Omega.{arith}
 use lib.ListN.{length, length-take}
-use Rattle.frames.specs.Answer.{paper}
+use Rattle.record.specs.Answer.{paper}
 use Rattle.gwone.specs.Printed.{line, answerText}
 use borrow.Author.Needs.{needs}
 use Rattle.gwone.proofs.answer.add_answer.Statement.{statement}

@@ -1,7 +1,7 @@
 -- `text::add` puts the piece where it fits, and its caller has shown that it does.
 use mathlib.Core.Path.{_∙_}
 use borrow.Author.Needs.{needs}
-use Rattle.frames.proofs.Lists.{fits}
+use Rattle.base.proofs.Lists.{fits}
 use Rattle.gwone.proofs.text.add.Statement.{statement}
 use Rattle.gwone.proofs.text.add.Tie as tie
 

@@ -1,8 +1,8 @@
 -- `builders::yavoledu_make_ip_frame` meets its contract.
 use Prim.Native.Nat.{ℕ}
 use mathlib.Core.Path.{ap}
-use Rattle.frames.specs.declared.answer.Guest.{Guest}
-use Rattle.frames.specs.Rfc791.{ipFrame}
+use Rattle.record.specs.declared.guest.Guest.{Guest}
+use Rattle.frames.specs.Frames.{ipFrame}
 use Rattle.host.proofs.Telling.{built-of}
 use borrow.Author.Needs.{needs}
 use Rattle.host.proofs.builders.yavoledu_make_ip_frame.Statement.{statement}

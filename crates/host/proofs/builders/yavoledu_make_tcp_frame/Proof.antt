@@ -1,7 +1,7 @@
 -- `builders::yavoledu_make_tcp_frame` meets its contract.
 use Prim.Native.Nat.{ℕ}
 use mathlib.Core.Path.{ap}
-use Rattle.frames.specs.declared.answer.Guest.{Guest}
+use Rattle.record.specs.declared.guest.Guest.{Guest}
 use Rattle.tcp.specs.Rfc9293.{tcpFrame}
 use Rattle.host.proofs.Telling.{built-of}
 use borrow.Author.Needs.{needs}

@@ -1,7 +1,7 @@
 -- `numbers::numbered` meets its contract, verdict by verdict.
 use mathlib.Core.Path.{_≡_, sym, ap, _∙_}
-use Rattle.frames.specs.Answer.{paper}
-use Rattle.frames.specs.declared.answer.Verdict.{Verdict}
+use Rattle.record.specs.Answer.{paper}
+use Rattle.record.specs.declared.answer.Verdict.{Verdict}
 use Rattle.host.specs.Exported.{padded}
 use borrow.Author.Needs.{needs}
 use Rattle.host.proofs.numbers.numbered.Statement.{statement}

@@ -5,7 +5,7 @@ use mathlib.Core.Path.{ap, sym, _∙_}
 use mathlib.Core.List.{List}
 use native.Mathlib.Omega.{arith}
 use lib.ListN.{length}
-use Rattle.fields.specs.Bytes.{u16At}
+use Rattle.base.specs.Bytes.{u16At}
 use Rattle.grammar.specs.Grammar.{UDP, headerLength, unsummed, summed}
 use Rattle.messages.proofs.Telling.{tells-same}
 use Rattle.reader.proofs.Reading.{rest, has-to-sum}

@@ -2,7 +2,7 @@
 use mathlib.Core.Path.{sym, _∙_}
 use borrow.Author.Tests.{lt-ltb, le-ltb, eq-eqb, ne-eqb}
 use lib.ListN.{length}
-use Rattle.fields.specs.Rfc894.{typeOf}
+use Rattle.wire.specs.Rfc894.{typeOf}
 use Rattle.rules.specs.Rules.{decision}
 use borrow.Author.Needs.{needs}
 use Rattle.rules.proofs.decision.decide.Statement.{statement}

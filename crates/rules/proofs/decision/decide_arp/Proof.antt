@@ -6,8 +6,8 @@ use mathlib.Core.List.{List}
 use borrow.Author.Tests.{lt-ltb, le-ltb, eq-eqb, ne-eqb, not-true, not-false}
 use lib.ListN.{length}
 use lib.Seq.{getD-drop}
-use Rattle.fields.specs.Rfc826.{operation, soughtAddress}
-use Rattle.fields.specs.Rfc894.{body}
+use Rattle.wire.specs.Rfc826.{operation, soughtAddress}
+use Rattle.wire.specs.Rfc894.{body}
 use Rattle.rules.specs.Rules.{arpDecision}
 use Rattle.rules.specs.Same.{same}
 use borrow.Author.Needs.{needs}

@@ -2,7 +2,7 @@
 use mathlib.Core.Path.{sym, ap, ap₂, _∙_}
 use borrow.Author.Tests.{lt-ltb, le-ltb, eq-eqb, ne-eqb}
 use lib.ListN.{length}
-use Rattle.fields.specs.Rfc2131.{operation, magicCookie}
+use Rattle.wire.specs.Rfc2131.{operation, magicCookie}
 use Rattle.rules.specs.Rules.{dhcpDecision, typeDecision}
 use Rattle.rules.specs.declared.decision.Decision.the-variants.{DropNoting}
 use borrow.Author.Needs.{needs}

@@ -2,8 +2,8 @@
 use mathlib.Core.Path.{sym, _∙_}
 use borrow.Author.Tests.{lt-ltb, le-ltb, eq-eqb, ne-eqb}
 use lib.ListN.{length}
-use Rattle.fields.specs.Rfc791.{protocolOf}
-use Rattle.fields.specs.Rfc894.{body}
+use Rattle.wire.specs.Rfc791.{protocolOf}
+use Rattle.wire.specs.Rfc894.{body}
 use Rattle.rules.specs.Rules.{ipDecision}
 use borrow.Author.Needs.{needs}
 use Rattle.rules.proofs.decision.decide_ip.Statement.{statement}

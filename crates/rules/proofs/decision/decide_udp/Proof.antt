@@ -1,13 +1,12 @@
 -- `decision::decide_udp` meets its contract: its tests are those of `Datagram`.
 use Prim.Native.Nat.{ℕ, _+_, _-_, _≤_}
 use mathlib.Core.Path.{_≡_, sym, ap, ap₂, _∙_}
-use mathlib.Core.Bool.{_&&_}
+use mathlib.Core.Bool.{_&&_, cond}
 use mathlib.Core.List.{List}
 use native.Mathlib.Omega.{arith}
 use lib.Dec.{eqb, ltb}
 use lib.ListN.{length}
-use Rattle.fields.specs.Bytes.{u16At, part}
-use Rattle.frames.specs.Pick.{pick}
+use Rattle.base.specs.Bytes.{u16At, part}
 use Rattle.rules.specs.Rules.{payloadAt, dhcpDecision}
 use Rattle.rules.specs.Same.{same}
 use Rattle.rules.specs.declared.decision.Decision.the-variants.{Dns, Relay}
@@ -56,7 +55,7 @@ returns-4 c =
     let inside : payloadAt frame ≤ length frame = omega (arith, at, c .before .before .before .before .before .before .before .before .before .before .before .if1 .left) in
     let whole : 8 ≤ length frame - payloadAt frame = omega (arith, whole-size, c .before .before .before .before .before .before .before .before .before .if2 .left) in
     let enough : 8 ≤ u16At frame (payloadAt frame + 4) = omega (arith, stated, c .before .before .before .before .before .before .before .if3 .left) in
-    let size = c .before .before .before .before .before .before .smaller .ensures .0 ∙ ap₂ (λ (l f : ℕ). pick (ltb (l - 8) (f - 8)) (l - 8) (f - 8)) whole-size stated in
+    let size = c .before .before .before .before .before .before .smaller .ensures .0 ∙ ap₂ (λ (l f : ℕ). cond (ltb (l - 8) (f - 8)) (l - 8) (f - 8)) whole-size stated in
     let ports = ap₂ (λ (x y : ℕ). eqb x 68 && eqb y 67) (sym source) (sym target) ∙ sym (c .before .before .before .is-dhcp .ensures) in
     let cut : 14 + c .before .before .before .before .before .before .before .before .before .before .before .before .ip-hlen .result + 8 + c .before .before .before .before .before .before .smaller .result - (14 + c .before .before .before .before .before .before .before .before .before .before .before .before .ip-hlen .result + 8) ≡ c .before .before .before .before .before .before .smaller .result = omega arith in
     c .decide-dhcp .ensures
@@ -76,7 +75,7 @@ returns-5 c =
     let inside : payloadAt frame ≤ length frame = omega (arith, at, c .before .before .before .before .before .before .before .before .before .before .before .if1 .left) in
     let whole : 8 ≤ length frame - payloadAt frame = omega (arith, whole-size, c .before .before .before .before .before .before .before .before .before .if2 .left) in
     let enough : 8 ≤ u16At frame (payloadAt frame + 4) = omega (arith, stated, c .before .before .before .before .before .before .before .if3 .left) in
-    let size = c .before .before .before .before .before .before .smaller .ensures .0 ∙ ap₂ (λ (l f : ℕ). pick (ltb (l - 8) (f - 8)) (l - 8) (f - 8)) whole-size stated in
+    let size = c .before .before .before .before .before .before .smaller .ensures .0 ∙ ap₂ (λ (l f : ℕ). cond (ltb (l - 8) (f - 8)) (l - 8) (f - 8)) whole-size stated in
     let ports = ap₂ (λ (x y : ℕ). eqb x 68 && eqb y 67) (sym source) (sym target) ∙ sym (c .before .before .before .is-dhcp .ensures) in
     let named =
     ap₂ (λ (l : List ℕ) (y : ℕ). same l (net .gateway) && eqb y 53) (sym (c .before .before .before .before .before .before .before .before .before .before .before .before .before .ip-dst .ensures)) (sym target) ∙ sym (c .before .is-dns .ensures) in
@@ -96,7 +95,7 @@ returns-6 c =
     let inside : payloadAt frame ≤ length frame = omega (arith, at, c .before .before .before .before .before .before .before .before .before .before .before .if1 .left) in
     let whole : 8 ≤ length frame - payloadAt frame = omega (arith, whole-size, c .before .before .before .before .before .before .before .before .before .if2 .left) in
     let enough : 8 ≤ u16At frame (payloadAt frame + 4) = omega (arith, stated, c .before .before .before .before .before .before .before .if3 .left) in
-    let size = c .before .before .before .before .before .before .smaller .ensures .0 ∙ ap₂ (λ (l f : ℕ). pick (ltb (l - 8) (f - 8)) (l - 8) (f - 8)) whole-size stated in
+    let size = c .before .before .before .before .before .before .smaller .ensures .0 ∙ ap₂ (λ (l f : ℕ). cond (ltb (l - 8) (f - 8)) (l - 8) (f - 8)) whole-size stated in
     let ports = ap₂ (λ (x y : ℕ). eqb x 68 && eqb y 67) (sym source) (sym target) ∙ sym (c .before .before .before .is-dhcp .ensures) in
     let named =
     ap₂ (λ (l : List ℕ) (y : ℕ). same l (net .gateway) && eqb y 53) (sym (c .before .before .before .before .before .before .before .before .before .before .before .before .before .ip-dst .ensures)) (sym target) ∙ sym (c .before .is-dns .ensures) in

@@ -3,10 +3,10 @@ use Prim.Native.Nat.{ℕ}
 use mathlib.Core.Path.{_≡_, refl, ap, ap₂, _∙_}
 use mathlib.Core.List.{List}
 use lib.Seq.{getD-drop}
-use Rattle.fields.specs.Rfc826.{senderMac, senderAddress}
-use Rattle.fields.specs.Rfc894.{body}
-use Rattle.frames.specs.Buffer.{put}
-use Rattle.frames.proofs.Lists.{put-front}
+use Rattle.wire.specs.Rfc826.{senderMac, senderAddress}
+use Rattle.wire.specs.Rfc894.{body}
+use Rattle.base.specs.Buffer.{put}
+use Rattle.base.proofs.Lists.{put-front}
 use Rattle.rules.specs.Rfc826.{replyTo, arpReply}
 use Rattle.slirp.proofs.Framing.{too-small, large-enough}
 use borrow.Author.Needs.{needs}

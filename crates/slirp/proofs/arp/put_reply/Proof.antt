@@ -4,7 +4,7 @@ use Prim.Native.Nat.{ℕ}
 use mathlib.Core.List.{List}
 use native.Mathlib.Omega.{arith}
 use Rattle.dhcp.proofs.Pieces.{nothing-yet, behind}
-use Rattle.frames.specs.Buffer.{put}
+use Rattle.base.specs.Buffer.{put}
 use Rattle.slirp.proofs.ArpPieces.{fixed, reply-pieces}
 use borrow.Author.Needs.{needs}
 use Rattle.slirp.proofs.arp.put_reply.Statement.{statement}

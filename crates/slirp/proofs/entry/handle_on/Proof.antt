@@ -1,8 +1,8 @@
 -- `entry::handle_on` meets its contract, decision by decision.
 use mathlib.Core.Path.{refl, sym, ap, _∙_}
-use Rattle.frames.specs.Answer.{paper}
-use Rattle.frames.specs.declared.answer.Guest.{Guest}
-use Rattle.frames.specs.declared.answer.Verdict.the-variants.{Drop}
+use Rattle.record.specs.Answer.{paper}
+use Rattle.record.specs.declared.guest.Guest.{Guest}
+use Rattle.record.specs.declared.answer.Verdict.the-variants.{Drop}
 use Rattle.rules.specs.Rules.{outcomeOf}
 use Rattle.slirp.proofs.Decided.{as-decided, left-alone, request-inside}
 use borrow.Author.Needs.{needs}

@@ -5,11 +5,11 @@ use mathlib.Core.List.{List}
 use native.Mathlib.Omega.{arith}
 use lib.ListN.{length, drop, length-drop}
 use lib.ListN.{length-map}
-use Rattle.fields.specs.Rfc791.{sourceOf}
-use Rattle.fields.specs.Rfc894.{body, sourceMac}
-use Rattle.frames.specs.Buffer.{put}
-use Rattle.rules.specs.Rfc792.{echo}
-use Rattle.frames.proofs.Lists.{from-on}
+use Rattle.wire.specs.Rfc791.{sourceOf}
+use Rattle.wire.specs.Rfc894.{body, sourceMac}
+use Rattle.base.specs.Buffer.{put}
+use Rattle.wire.specs.Rfc792.{echo}
+use Rattle.base.proofs.Lists.{from-on}
 use Rattle.slirp.proofs.Echo.{length-echo}
 use Rattle.slirp.proofs.Framing.{too-small, framed-in-place}
 use borrow.Author.Needs.{needs}

@@ -5,12 +5,12 @@ use lib.ListN.{length}
 use lib.ListN.{length-map}
 use Rattle.dhcp.specs.Rfc2131.{reply}
 use Rattle.dhcp.proofs.ReadBack.{FourBytes, reply-reads-back}
-use Rattle.fields.specs.Rfc894.{sourceMac}
-use Rattle.frames.specs.Network.{broadcastOf}
-use Rattle.frames.specs.Rfc768.{datagram}
+use Rattle.wire.specs.Rfc894.{sourceMac}
+use Rattle.record.specs.Network.{broadcastOf}
+use Rattle.wire.specs.Rfc768.{datagram}
 use Rattle.frames.proofs.Lengths.{length-datagram}
 use Rattle.rules.specs.Rfc2131.{dhcpFrame}
-use Rattle.rules.specs.Rules.{noting}
+use Rattle.record.specs.Guest.{noting}
 use Rattle.slirp.proofs.Framing.{too-small, framed-in-place}
 use borrow.Author.Needs.{needs}
 use Rattle.slirp.proofs.lease.handle_dhcp.Statement.{statement}

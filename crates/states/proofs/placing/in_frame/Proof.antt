@@ -4,9 +4,9 @@ use mathlib.Core.List.{List, [], _∷_}
 use mathlib.Core.Path.{_≡_, refl, ap₂, _∙_}
 use native.Mathlib.Omega.{arith}
 use lib.Seq.{getD-drop}
-use Rattle.fields.specs.Bytes.{u16At}
-use Rattle.fields.specs.Rfc791.{headerLength, totalLength}
-use Rattle.fields.specs.Rfc894.{body}
+use Rattle.base.specs.Bytes.{u16At}
+use Rattle.wire.specs.Rfc791.{headerLength, totalLength}
+use Rattle.wire.specs.Rfc894.{body}
 use Rattle.fragments.specs.Rfc791.{payloadLength}
 use borrow.Author.Needs.{needs}
 use Rattle.states.proofs.placing.in_frame.Statement.{statement}

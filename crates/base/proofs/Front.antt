@@ -1,0 +1,52 @@
+-- Pieces put one behind the other, from a buffer's first byte on, are one piece at its front.
+use Prim.Native.Nat.{ℕ, _+_, _-_, _≤_}
+use mathlib.Core.Path.{_≡_, refl, ap, sym, _∙_}
+use mathlib.Core.List.{List, [], _++_}
+use native.Mathlib.Omega.{arith}
+use native.Mathlib.Nat.{zero-add}
+use lib.ListN.{length, take, drop, length-append, length-take, length-drop}
+use lib.Seq.{take-length}
+use Rattle.base.specs.Buffer.{put, putIfFits}
+use Rattle.base.proofs.Lists.{fits, length-put, put-put, put-front, copied}
+
+-- the buffer `b` once `front`, of `len` bytes, stands at its front
+pub record Front (b front : List ℕ) (len : ℕ) (now : List ℕ) : Type 0 where
+  pub bytes : now ≡ put 0 front b
+  pub long : length front ≡ len
+
+pub nothing-yet : (b : List ℕ) → Front b [] 0 b
+nothing-yet b = record { bytes = sym (put-front [] b); long = refl }
+
+-- a piece put right behind the front is part of the front
+pub behind : {b front now : List ℕ} {len : ℕ} → Front b front len now → (piece : List ℕ) (n : ℕ) → length piece ≡ n → len + n ≤ length b
+    → {after : List ℕ} → after ≡ putIfFits len piece now → Front b (front ++ piece) (len + n) after
+behind {b} {front} {now} {len} f piece n e room {after} p =
+    record {
+      bytes =
+          p
+          ∙ ap (putIfFits len piece) (f .bytes)
+          ∙ fits len piece (put 0 front b) (omega (arith, long, e, same))
+          ∙ ap (λ (at : ℕ). put at piece (put 0 front b)) (sym (zero-add (length front) ∙ long))
+          ∙ put-put 0 front piece b (omega (arith, long, e));
+      long = length-append front piece ∙ omega (arith, long, e);
+    }
+  where
+    long : length front ≡ len
+    long = f .long
+
+    same : length (put 0 front b) ≡ length b
+    same = length-put 0 front b (omega (arith, long))
+
+-- the same of a piece written at the front of what lies from `len` on, as the code hands a part of a buffer on
+pub behind-in-part : {b front now : List ℕ} {len : ℕ} → Front b front len now → (piece : List ℕ) (n : ℕ) → length piece ≡ n → len + n ≤ length b
+    → (rest : List ℕ) → rest ≡ put 0 piece (take (length now - len) (drop len now))
+    → {after : List ℕ} → after ≡ take len now ++ (rest ++ drop (length now - len) (drop len now)) → Front b (front ++ piece) (len + n) after
+behind-in-part {b} {front} {now} {len} f piece n e room rest r {after} p =
+    behind f piece n e room
+    (p
+    ∙ copied len piece now rest (omega (arith, same))
+    (r ∙ put-front piece _ ∙ ap (λ (s : List ℕ). s ++ drop (length piece) (take (length now - len) (drop len now))) (sym (take-length piece)))
+    ∙ sym (fits len piece now (omega (arith, e, same))))
+  where
+    same : length now ≡ length b
+    same = ap length (f .bytes) ∙ length-put 0 front b (omega (arith, f .long))

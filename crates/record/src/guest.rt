@@ -1,0 +1,63 @@
+// One guest's record, and all that makes or changes one.
+ghost use mathlib.Core.Path.{_≡_};
+ghost use Rattle.record.specs.Guest.{fresh, known, noting, spent};
+use crate::answer::Answer;
+use crate::answer::Verdict;
+
+// Its MAC, the id of the next IPv4 frame built for it, and its last DHCP xid. `host` lends it to C, so its layout is C's.
+#[repr(C)]
+pub struct Guest {
+    pub mac: [u8; 6],
+    pub id: u16,
+    pub xid: u32,
+}
+
+impl Guest {
+    // A new guest's.
+    pub fn new(mac: [u8; 6]) -> Guest
+        ensures { λ r. ⌜ r ≡ fresh mac ⌝ }
+    {
+        Guest::of(mac, 1, 0)
+    }
+
+    // One whose id and xid are known.
+    pub fn of(mac: [u8; 6], id: u16, xid: u32) -> Guest
+        ensures { λ r. ⌜ r ≡ known mac id xid ⌝ }
+    {
+        Guest { mac, id, xid }
+    }
+
+    // Its id stands in a frame: the next one is greater by 1, and 65,535 goes to 0.
+    pub fn spend(self) -> Guest
+        ensures { λ r. ⌜ r ≡ spent self ⌝ }
+    {
+        let mac = self.mac;
+        Guest {
+            mac,
+            id: std::num::wrapping_add_u16(self.id, 1),
+            xid: self.xid,
+        }
+    }
+
+    // It has a message with this xid.
+    pub fn note(self, xid: u32) -> Guest
+        ensures { λ r. ⌜ r ≡ noting xid self ⌝ }
+    {
+        let mac = self.mac;
+        Guest {
+            mac,
+            id: self.id,
+            xid,
+        }
+    }
+
+    // The answer that leaves this record.
+    pub fn answer(self, verdict: Verdict) -> Answer
+        ensures { λ r. ⌜ r ≡ record { verdict = verdict; guest = self } ⌝ }
+    {
+        Answer {
+            verdict,
+            guest: self,
+        }
+    }
+}
