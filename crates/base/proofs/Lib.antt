@@ -1,2 +1,5 @@
+pub mod Choice
 pub mod Lists
 pub mod Front
+pub mod Telling
+pub mod Runs

@@ -1,3 +1,4 @@
 pub mod Bytes
 pub mod Buffer
 pub mod Tells
+pub mod Runs

@@ -1,5 +1,4 @@
 -- What the proofs of several functions use (`Telling` serves the reader too), and that `read_message` answers once.
-pub mod Telling
 mod AllZero
 mod Listing
 mod MessageRead

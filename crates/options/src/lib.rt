@@ -4,6 +4,10 @@ ghost use mathlib.Core.Path.{_≡_};
 ghost use Prim.Native.Nat.{_<_};
 ghost use Rattle.options.specs.Found.{told};
 ghost use Rattle.options.specs.Rfc2132.{walk};
+use wire::dhcp::END;
+use wire::dhcp::FIXED;
+use wire::dhcp::MESSAGE_TYPE;
+use wire::dhcp::PAD;
 
 // What the walk over the options comes to.
 pub enum Found {
@@ -13,20 +17,11 @@ pub enum Found {
     CutAt(usize),
 }
 
-// The options stand behind the fixed fields and the cookie.
-const OPTIONS_AT: usize = 240;
-
-const PAD: u8 = 0;
-
-pub const MESSAGE_TYPE: u8 = 53;
-
-pub const END: u8 = 255;
-
 // The type of the message `data`, which may end anywhere.
 pub fn message_type(data: &[u8]) -> Found
     ensures { λ r. ⌜ told r ≡ walk (now («data» .entry)) ⌝ }
 {
-    let mut at = OPTIONS_AT;
+    let mut at = FIXED;
     'scan: loop {
         if data.len() <= at {
             break 'scan Found::MessageType(0);

@@ -15,7 +15,7 @@ use Rattle.grammar.specs.Report.{parts, partsOf, Reads, takes, refuses, arpKind
 use Rattle.reader.specs.Told.{layerOf, told}
 use Rattle.reader.specs.declared.parts.Layer.{Layer as Parts·Layer}
 use Rattle.reader.specs.declared.parts.Reading.the-variants.{Arp, OtherIpv4, Icmp, Udp, Dhcp, Tcp, Outside}
-use Rattle.messages.proofs.Telling.{first-of, second-of}
+use Rattle.base.proofs.Telling.{first-of, second-of}
 use Rattle.grammar.proofs.Places.{placed}
 use Rattle.grammar.proofs.Unique.{clash, arp-or-ipv4, icmp-only, dhcp-only, tcp-only}
 

@@ -11,7 +11,7 @@ use Rattle.base.proofs.Lists.{from-on}
 use Rattle.sums.specs.Rfc1071.{total, fold, SumsRight}
 use Rattle.grammar.specs.Grammar.{UDPSums, unsummed, summed, pseudoHeader, payload}
 use Rattle.base.specs.Tells.{Tells}
-use Rattle.messages.proofs.Telling.{tells-eq}
+use Rattle.base.proofs.Telling.{tells-eq}
 
 -- a sum from 0 on, compared with 65,535, tells whether its bytes sum right
 pub tells-sums : {A : Type 0} (r : ℕ) (s : List ℕ) → r ≡ fold (0 + total s) → (SumsRight s → A) → (A → SumsRight s) → Tells (eqb r 65535) A

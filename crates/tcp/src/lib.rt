@@ -16,6 +16,10 @@ use record::Guest;
 use record::Verdict;
 use sums::sum;
 use wire::bytes::be32;
+use wire::ethernet;
+use wire::ipv4;
+use wire::tcp::HEADER;
+use wire::tcp::SYN;
 use wire::udp::pseudo_header;
 
 // Who speaks to whom; `dst_mac` is the guest's.
@@ -27,14 +31,8 @@ pub struct Endpoints {
     pub dst_port: u16,
 }
 
-const IP_PROTO_TCP: u8 = 6;
-
 // The segment lies behind the Ethernet and the IPv4 header.
-const SEGMENT_AT: usize = 34;
-
-const HEADER: usize = 20;
-
-const SYN: u8 = 0x02;
+const SEGMENT_AT: usize = ethernet::HEADER + ipv4::HEADER;
 
 const WINDOW: u16 = 65535;
 
@@ -58,32 +56,17 @@ pub fn make_tcp_frame(
     let len = data.len();
     let option_len = options_length(flags);
     if data_limit(flags) < len {
-        return refused(guest, Verdict::TooLong(len));
+        return guest.answer(Verdict::TooLong(len));
     }
     let segment_len = HEADER + option_len + len;
     if out.len() < SEGMENT_AT + segment_len {
-        return refused(guest, Verdict::NoRoom(SEGMENT_AT + segment_len));
+        return guest.answer(Verdict::NoRoom(SEGMENT_AT + segment_len));
     }
     put_segment(ends, seq, ack, flags, data, out);
     let dst_mac = ends.dst_mac;
     let src_ip = ends.src_ip;
     let dst_ip = ends.dst_ip;
-    make_ip_frame_in_place(
-        guest,
-        dst_mac,
-        src_ip,
-        dst_ip,
-        IP_PROTO_TCP,
-        segment_len,
-        out,
-    )
-}
-
-// Nothing is built, and the record stays as it was.
-fn refused(guest: Guest, verdict: Verdict) -> Answer
-    ensures { λ r. ⌜ r ≡ record { verdict = verdict; guest = guest } ⌝ }
-{
-    Answer { verdict, guest }
+    make_ip_frame_in_place(guest, dst_mac, src_ip, dst_ip, ipv4::TCP, segment_len, out)
 }
 
 // The segment, with its checksum, from 34 on.
@@ -142,7 +125,7 @@ fn segment_checksum(
     ensures { λ r. ⌜ r ≡ Rfc1071·checksum (covered «src_ip» «dst_ip» (now (header .entry) ++ now (options .entry) ++ now («data» .entry))) ⌝ }
 {
     let len = HEADER + options.len() + data.len();
-    let pseudo = pseudo_header(src_ip, dst_ip, IP_PROTO_TCP, len as u16);
+    let pseudo = pseudo_header(src_ip, dst_ip, ipv4::TCP, len as u16);
     65535 - sum(sum(sum(sum(0, &pseudo), header), options), data)
 }
 

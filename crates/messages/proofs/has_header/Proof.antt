@@ -2,7 +2,7 @@
 use borrow.Author.Needs.{needs}
 use mathlib.Core.Path.{sym, _∙_}
 use native.Mathlib.Omega.{arith}
-use Rattle.messages.proofs.Telling.{tells-eq, one-or-two, at-least-1, at-most-2}
+use Rattle.base.proofs.Telling.{tells-eq, one-or-two, at-least-1, at-most-2}
 use Rattle.messages.proofs.has_header.Statement.{statement}
 use Rattle.messages.proofs.has_header.Tie as tie
 

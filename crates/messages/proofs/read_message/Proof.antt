@@ -6,7 +6,7 @@ use native.Mathlib.Omega.{arith}
 use lib.ListN.{drop, length-drop}
 use Rattle.grammar.specs.Grammar.{DHCPHeader}
 use Rattle.messages.proofs.MessageRead.{no-message, message-read}
-use Rattle.messages.proofs.Telling.{tells-not, tells-yes, of-rest}
+use Rattle.base.proofs.Telling.{tells-not, tells-yes, of-rest}
 use Rattle.messages.proofs.read_message.Statement.{statement}
 use Rattle.messages.proofs.read_message.Tie as tie
 

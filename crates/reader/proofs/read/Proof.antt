@@ -4,7 +4,7 @@ use Prim.Native.Nat.{ℕ}
 use mathlib.Core.Path.{sym, _∙_}
 use mathlib.Core.List.{List}
 use Rattle.grammar.specs.Grammar.{ARP, IPv4, body}
-use Rattle.messages.proofs.Telling.{tells-not, tells-yes, of-rest}
+use Rattle.base.proofs.Telling.{tells-not, tells-yes, of-rest}
 use Rattle.reader.proofs.Answers.{short-frame, no-arp, arp-taken, no-ipv4}
 use Rattle.reader.proofs.read.Statement.{statement}
 use Rattle.reader.proofs.read.Tie as tie

@@ -5,7 +5,7 @@ use mathlib.Core.Path.{ap, sym, subst, _∙_}
 use mathlib.Core.List.{List}
 use Rattle.base.proofs.Lists.{from-on}
 use Rattle.grammar.specs.Grammar.{UDP, CarriesDHCP, body, protocol}
-use Rattle.messages.proofs.Telling.{tells-not, tells-yes, of-rest}
+use Rattle.base.proofs.Telling.{tells-not, tells-yes, of-rest}
 use Rattle.reader.specs.Helpers.{Headed}
 use Rattle.reader.proofs.Answers.{headed, no-udp, no-dhcp, udp-taken, dhcp-taken}
 use Rattle.reader.proofs.read_datagram.Statement.{statement}

@@ -5,7 +5,7 @@ use mathlib.Core.Path.{ap, sym, subst, _∙_}
 use mathlib.Core.List.{List}
 use Rattle.base.proofs.Lists.{from-on}
 use Rattle.grammar.specs.Grammar.{ICMP, TCP, body, dataOffset, headerLength, protocol}
-use Rattle.messages.proofs.Telling.{tells-not, tells-yes, of-rest}
+use Rattle.base.proofs.Telling.{tells-not, tells-yes, of-rest}
 use Rattle.reader.specs.Helpers.{Headed}
 use Rattle.reader.proofs.Answers.{headed, opened, no-icmp, no-tcp, icmp-taken, tcp-taken, other-taken}
 use Rattle.reader.proofs.read_payload.Statement.{statement}

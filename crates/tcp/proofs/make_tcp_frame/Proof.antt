@@ -11,10 +11,10 @@ use Rattle.tcp.proofs.make_tcp_frame.Statement.{statement}
 use Rattle.tcp.proofs.make_tcp_frame.Tie as tie
 
 returns : tie.Need-returns
-returns c = rw (c .refused .ensures) (refused-too-long _ _ _ _ _ _ _ (omega arith))
+returns c = rw (c .answer .ensures) (refused-too-long _ _ _ _ _ _ _ (omega arith))
 
 returns-2 : tie.Need-returns-2
-returns-2 c = rw (c .refused2 .ensures) (refused-no-room _ _ _ _ _ _ _ _ (omega arith) (omega arith) (omega arith))
+returns-2 c = rw (c .answer2 .ensures) (refused-no-room _ _ _ _ _ _ _ _ (omega arith) (omega arith) (omega arith))
 
 returns-3 : tie.Need-returns-3
 unfolding tcpFrame

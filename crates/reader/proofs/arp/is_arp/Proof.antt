@@ -2,7 +2,7 @@
 use borrow.Author.Needs.{needs}
 use mathlib.Core.Path.{_∙_}
 use mathlib.Core.Logic.{inl, inr}
-use Rattle.messages.proofs.Telling.{tells-eq, second-of}
+use Rattle.base.proofs.Telling.{tells-eq, second-of}
 use Rattle.reader.proofs.arp.is_arp.Statement.{statement}
 use Rattle.reader.proofs.arp.is_arp.Tie as tie
 

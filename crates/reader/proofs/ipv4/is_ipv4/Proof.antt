@@ -7,7 +7,7 @@ use native.Mathlib.Omega.{arith}
 use lib.ListN.{take, length-take}
 use Rattle.sums.specs.Rfc1071.{total, fold}
 use Rattle.grammar.specs.Grammar.{headerLength, Unfragmented}
-use Rattle.messages.proofs.Telling.{tells-not, tells-yes}
+use Rattle.base.proofs.Telling.{tells-not, tells-yes}
 use Rattle.reader.proofs.Reading.{tells-sums}
 use Rattle.reader.proofs.ipv4.is_ipv4.Statement.{statement}
 use Rattle.reader.proofs.ipv4.is_ipv4.Tie as tie

@@ -4,7 +4,7 @@ use Prim.Native.Nat.{_/_}
 use native.Mathlib.Omega.{arith}
 use lib.Bits.{bitAnd, and-mask}
 use Rattle.grammar.specs.Grammar.{Unfragmented}
-use Rattle.messages.proofs.Telling.{tells-eq}
+use Rattle.base.proofs.Telling.{tells-eq}
 use Rattle.reader.proofs.ipv4.is_unfragmented.Statement.{statement}
 use Rattle.reader.proofs.ipv4.is_unfragmented.Tie as tie
 

@@ -3,7 +3,7 @@ use borrow.Author.Needs.{needs}
 use mathlib.Core.Path.{refl, sym, _∙_}
 use mathlib.Core.Logic.{inl, inr}
 use borrow.Author.Tests.{eqb-false}
-use Rattle.messages.proofs.Telling.{tells-eq, first-of, second-of}
+use Rattle.base.proofs.Telling.{tells-eq, first-of, second-of}
 use Rattle.reader.proofs.Reading.{word-behind}
 use Rattle.reader.proofs.payloads.carries_dhcp.Statement.{statement}
 use Rattle.reader.proofs.payloads.carries_dhcp.Tie as tie

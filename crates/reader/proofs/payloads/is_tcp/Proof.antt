@@ -5,7 +5,7 @@ use mathlib.Core.List.{List}
 use native.Mathlib.Omega.{arith}
 use lib.ListN.{length-drop}
 use Rattle.grammar.specs.Grammar.{TCP, headerLength}
-use Rattle.messages.proofs.Telling.{tells-same}
+use Rattle.base.proofs.Telling.{tells-same}
 use Rattle.reader.proofs.payloads.is_tcp.Statement.{statement}
 use Rattle.reader.proofs.payloads.is_tcp.Tie as tie
 

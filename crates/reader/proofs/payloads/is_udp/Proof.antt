@@ -7,7 +7,7 @@ use native.Mathlib.Omega.{arith}
 use lib.ListN.{length}
 use Rattle.base.specs.Bytes.{u16At}
 use Rattle.grammar.specs.Grammar.{UDP, headerLength, unsummed, summed}
-use Rattle.messages.proofs.Telling.{tells-same}
+use Rattle.base.proofs.Telling.{tells-same}
 use Rattle.reader.proofs.Reading.{rest, has-to-sum}
 use Rattle.reader.proofs.payloads.is_udp.Statement.{statement}
 use Rattle.reader.proofs.payloads.is_udp.Tie as tie

@@ -1,0 +1,42 @@
+-- Calls one after the other, over any state and any call: what one leaves is what the next finds. `Keeps state call` says that the call,
+-- made on this state, was answered as promised; `after call` is the state that it left.
+use Prim.Native.Nat.{ℕ}
+use mathlib.Core.Bool.{cond}
+use mathlib.Core.List.{List, [], _∷_}
+use lib.Dec.{eqb}
+
+module _ {S C : Type 0} (Keeps : S → C → Type 0) (after : C → S) where
+  -- calls on one state, each kept
+  abbrev pub Runs : S → List C → Type 0
+  Runs state [] = Unit
+  Runs state (call ∷ rest) = Keeps state call × Runs (after call) rest
+
+  -- the state that they leave
+  abbrev pub leaves : S → List C → S
+  leaves state [] = state
+  leaves state (call ∷ rest) = leaves (after call) rest
+
+-- the states of many guests, told apart by a number, once the guest `who` has this one
+abbrev pub storing : {S : Type 0} → (ℕ → S) → (who : ℕ) → S → (ℕ → S)
+storing host who state other = cond (eqb who other) state (host other)
+
+-- the calls of one guest
+abbrev pub callsOf : {C : Type 0} → (C → ℕ) → (guest : ℕ) → List C → List C
+callsOf who guest [] = []
+callsOf who guest (call ∷ rest) = cond (eqb (who call) guest) (call ∷ callsOf who guest rest) (callsOf who guest rest)
+
+module _ {S C : Type 0} (Keeps : S → C → Type 0) (after : C → S) (who : C → ℕ) where
+  -- calls of any guests in any order: each is made on its guest's own state
+  abbrev pub Serves : (ℕ → S) → List C → Type 0
+  Serves host [] = Unit
+  Serves host (call ∷ rest) = Keeps (host (who call)) call × Serves (storing host (who call) (after call)) rest
+
+  -- the states that they leave
+  abbrev pub leavesAll : (ℕ → S) → List C → (ℕ → S)
+  leavesAll host [] = host
+  leavesAll host (call ∷ rest) = leavesAll (storing host (who call) (after call)) rest
+
+-- what is told of each call: what was asked in it, or what came of it
+abbrev pub each : {C A : Type 0} → (C → A) → List C → List A
+each told [] = []
+each told (call ∷ rest) = told call ∷ each told rest
