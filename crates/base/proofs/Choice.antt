@@ -3,5 +3,5 @@ use mathlib.Core.Bool.{Bool, true, false}
 use mathlib.Core.Path.{_≡_, refl}
 
 pub by-test : {A : Type 0} (t : Bool) → (t ≡ true → A) → (t ≡ false → A) → A
-by-test true yes no′ = yes refl
-by-test false yes no′ = no′ refl
+by-test true held failed = held refl
+by-test false held failed = failed refl
