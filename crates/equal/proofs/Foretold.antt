@@ -7,7 +7,7 @@ use native.Mathlib.Omega.{arith}
 use borrow.Author.Tests.{lt-ltb, le-ltb}
 use lib.ListN.{length, take, drop, length-take, length-drop, drop-of-length-le}
 use lib.Seq.{drop-append-seam}
-use Rattle.dhcp.proofs.ReadBack.{four-bytes}
+use Rattle.record.proofs.Addresses.{four-bytes}
 use Rattle.record.specs.Answer.{Outcome}
 use Rattle.record.specs.Network.{network}
 use Rattle.record.specs.declared.guest.Guest.{Guest}
@@ -22,8 +22,10 @@ use Rattle.rules.specs.Seen.{CutMessage, TooLongPing}
 use Rattle.rules.specs.declared.decision.Decision.{Decision}
 use Rattle.rules.specs.declared.decision.Decision.the-variants.{Drop, DropNoting, ArpReply, EchoReply, DhcpReply, Dns, Relay, Tcp, TooLong, CutType}
 use Rattle.rules.proofs.Says.{Says, says}
-use Rattle.slirp.proofs.Echo.{length-echo}
-use Rattle.slirp.proofs.ReadBack.{arp-reads-back, echo-frame-reads-back, dhcp-reads-back}
+use Rattle.echo_reply.proofs.Echo.{length-echo}
+use Rattle.arp_reply.proofs.ReadBack.{arp-reads-back}
+use Rattle.echo_reply.proofs.ReadBack.{echo-frame-reads-back}
+use Rattle.dhcp_reply.proofs.FrameReadBack.{dhcp-reads-back}
 use Rattle.equal.specs.Alike.{recordOf, handoff, writtenAs, added, cameOf, Keeps, Handed, AllHanded}
 use Rattle.equal.specs.Types.{Bytes, GuestTyped}
 use Rattle.equal.specs.Where.{HeaderPast}

@@ -8,15 +8,16 @@ use borrow.Author.Tests.{ltb-true, ltb-false, leb-true, leb-false, eqb-true, eqb
 use lib.Dec.{ltb, leb, eqb}
 use lib.ListN.{length}
 use Rattle.base.specs.Bytes.{be16, u8At, bytesAt}
-use Rattle.dhcp.specs.Rfc2131.{reply}
-use Rattle.dhcp.proofs.ReadBack.{four-bytes, reply-reads-back}
+use Rattle.dhcp_reply.specs.Reply.{reply}
+use Rattle.record.proofs.Addresses.{four-bytes}
+use Rattle.dhcp_reply.proofs.ReadBack.{reply-reads-back}
 use Rattle.wire.specs.Rfc894.{sourceMac}
 use Rattle.record.specs.Network.{network, gatewayMac}
 use Rattle.wire.specs.Rfc768.{datagram}
 use Rattle.wire.specs.Rfc791.{header}
 use Rattle.frames.specs.Frames.{ipFrame}
 use Rattle.frames.proofs.Lengths.{length-datagram}
-use Rattle.rules.specs.Rfc2131.{dhcpFrame}
+use Rattle.dhcp_reply.specs.Reply.{dhcpFrame}
 use Rattle.base.proofs.Lists.{all-bytes}
 use Rattle.options.specs.Rfc2132.{option, Walked, typed, cut, decides, walk}
 use Rattle.options.proofs.Places.{walkAt, past-end, at-255, at-0, at-last, at-other, at-type, at-cut}

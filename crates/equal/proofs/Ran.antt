@@ -26,9 +26,9 @@ use Rattle.published.specs.Backend.{«handle_dns», «relay_datagram», «handl
 use Rattle.published.specs.Slirp.{«handle_arp», «handle_icmp», «handle_ip», send}
 use Rattle.published.specs.Udp.{«handle_udp»}
 use Rattle.published.specs.Dhcp.{«handle_dhcp», «send_dhcp_reply»}
-use Rattle.rules.specs.Rfc792.{echoFrame}
-use Rattle.rules.specs.Rfc826.{arpReply, replyTo}
-use Rattle.rules.specs.Rfc2131.{dhcpFrame}
+use Rattle.echo_reply.specs.Reply.{echoFrame}
+use Rattle.arp_reply.specs.Reply.{arpReply, replyTo}
+use Rattle.dhcp_reply.specs.Reply.{dhcpFrame}
 use Rattle.rules.specs.Rules.{payloadAt, payload, dataEnd, dataAt, dataLength, datagramData, decision, arpDecision, ipDecision, icmpDecision, udpDecision, dhcpDecision, typeDecision}
 use Rattle.rules.specs.Same.{same}
 use Rattle.rules.specs.Seen.{Carries}

@@ -4,7 +4,8 @@ use mathlib.Core.Path.{_≡_}
 use mathlib.Core.Logic.{_↔_}
 use mathlib.Core.List.{List, [], _∷_}
 use lib.ListN.{length, take, drop}
-use Rattle.dhcp.proofs.ReadBack.{FourBytes, four-bytes}
+use Rattle.record.specs.Network.{FourBytes}
+use Rattle.record.proofs.Addresses.{four-bytes}
 use Rattle.base.specs.Bytes.{part}
 use Rattle.record.specs.Answer.{paper, Wrote, Meets}
 use Rattle.frames.specs.Builders.{makeIpFrame, makeIpFrameInPlace, makeUdpPayload}

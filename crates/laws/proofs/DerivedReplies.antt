@@ -5,8 +5,8 @@ use mathlib.Core.Logic.{_⊎_, inl, inr}
 use mathlib.Core.List.{List}
 use native.Mathlib.Omega.{arith}
 use lib.ListN.{length, drop}
-use Rattle.dhcp.specs.Rfc2131.{reply}
-use Rattle.dhcp.proofs.ReadBack.{FourBytes}
+use Rattle.dhcp_reply.specs.Reply.{reply}
+use Rattle.record.specs.Network.{FourBytes}
 use Rattle.wire.specs.Rfc791.{sourceOf}
 use Rattle.wire.specs.Rfc894.{body, sourceMac}
 use Rattle.record.specs.Network.{broadcastOf}
@@ -15,7 +15,7 @@ use Rattle.record.specs.declared.guest.Guest.{Guest}
 use Rattle.record.specs.declared.network.Network.{Network}
 use Rattle.grammar.specs.Grammar.{Derivation, Derives}
 use Rattle.wire.specs.Rfc792.{echo}
-use Rattle.rules.specs.Rfc2131.{dhcpFrame}
+use Rattle.dhcp_reply.specs.Reply.{dhcpFrame}
 use Rattle.rules.specs.Rules.{decision}
 use Rattle.rules.specs.declared.decision.Decision.{Decision}
 use Rattle.rules.specs.declared.decision.Decision.the-variants.{Drop, DropNoting, ArpReply, EchoReply, DhcpReply, Dns, Relay, Tcp, TooLong, CutType}

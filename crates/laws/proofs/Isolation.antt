@@ -8,7 +8,7 @@ use native.Mathlib.Omega.{arith}
 use borrow.Author.Tests.{eqb-true}
 use lib.Dec.{eqb}
 use lib.ListN.{length, getD, drop}
-use Rattle.dhcp.proofs.ReadBack.{FourBytes}
+use Rattle.record.specs.Network.{FourBytes}
 use Rattle.record.specs.Answer.{Outcome}
 use Rattle.record.specs.declared.answer.Answer.{Answer}
 use Rattle.record.specs.declared.guest.Guest.{Guest}

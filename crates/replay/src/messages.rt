@@ -80,12 +80,12 @@ pub fn reply_types(line: &[u8]) -> bool {
     }
     let mut kind: u8 = 0;
     while kind < 255 {
-        if dhcp::reply_type(kind) != byte_at(line, 1 + (kind as usize)) {
+        if dhcp_reply::reply_type(kind) != byte_at(line, 1 + (kind as usize)) {
             return false;
         }
         kind += 1;
     }
-    dhcp::reply_type(kind) == byte_at(line, 256)
+    dhcp_reply::reply_type(kind) == byte_at(line, 256)
 }
 
 pub fn builds_reply(line: &[u8]) -> bool {
@@ -112,7 +112,7 @@ fn is_reply(line: &[u8], out: &mut [u8]) -> bool {
         head_len: vectors::rest(line, 21).len(),
         payload_at: line.len(),
     };
-    let verdict = dhcp::build_reply(
+    let verdict = dhcp_reply::build_reply(
         Network::new(),
         mac_at(line, 5),
         u32be(line, 1),

@@ -4,7 +4,7 @@ use mathlib.Core.Path.{_≡_}
 use mathlib.Core.List.{List, [], _∷_, _++_}
 use lib.ListN.{length}
 use Rattle.base.proofs.Lists.{all-bytes}
-use Rattle.rules.specs.Rfc826.{replyTo}
+use Rattle.arp_reply.specs.Reply.{replyTo}
 
 -- what stands between the target's MAC and the gateway's address
 abbrev pub fixed : List ℕ

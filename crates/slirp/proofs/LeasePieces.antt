@@ -6,8 +6,9 @@ use native.Mathlib.Omega.{arith}
 use borrow.Author.Tests.{le-ltb}
 use lib.ListN.{length, take, drop, length-take, length-drop, drop-of-length-le}
 use lib.Seq.{take-length}
-use Rattle.dhcp.specs.Rfc2131.{reply, buildReply}
-use Rattle.dhcp.proofs.ReadBack.{FourBytes, reply-reads-back}
+use Rattle.dhcp_reply.specs.Reply.{reply, buildReply}
+use Rattle.record.specs.Network.{FourBytes}
+use Rattle.dhcp_reply.proofs.ReadBack.{reply-reads-back}
 use Rattle.record.specs.Answer.{Wrote, building}
 use Rattle.base.specs.Buffer.{put}
 use Rattle.frames.specs.Builders.{makeUdpPayload}

@@ -4,7 +4,7 @@ ghost use lib.ListN.{length};
 ghost use Rattle.record.specs.Answer.{Meets};
 ghost use Prim.Native.Nat.{_≤_};
 ghost use Rattle.base.specs.Buffer.{put as Buffer·put};
-ghost use Rattle.rules.specs.Rfc826.{arpReply, replyTo};
+ghost use Rattle.arp_reply.specs.Reply.{arpReply, replyTo};
 ghost use Rattle.record.specs.Answer.{framing};
 use crate::answers::answer;
 use crate::answers::no_room;

@@ -6,7 +6,7 @@ ghost use Rattle.record.specs.Answer.{Meets};
 ghost use Rattle.record.specs.Guest.{spent};
 ghost use Rattle.base.specs.Buffer.{put as Buffer·put};
 ghost use Rattle.wire.specs.Rfc792.{echo};
-ghost use Rattle.rules.specs.Rfc792.{echoFrame};
+ghost use Rattle.echo_reply.specs.Reply.{echoFrame};
 ghost use Rattle.record.specs.Answer.{framing};
 use crate::answers::no_room;
 use base::put;

@@ -7,7 +7,7 @@ use Rattle.wire.specs.Rfc826.{senderMac, senderAddress}
 use Rattle.wire.specs.Rfc894.{body}
 use Rattle.base.specs.Buffer.{put}
 use Rattle.base.proofs.Lists.{put-front}
-use Rattle.rules.specs.Rfc826.{replyTo, arpReply}
+use Rattle.arp_reply.specs.Reply.{replyTo, arpReply}
 use Rattle.slirp.proofs.Framing.{too-small, large-enough}
 use borrow.Author.Needs.{needs}
 use Rattle.slirp.proofs.arp.handle_arp.Statement.{statement}

@@ -3,7 +3,7 @@ use mathlib.Core.Path.{refl, ap, _∙_}
 use Prim.Native.Nat.{ℕ}
 use mathlib.Core.List.{List}
 use native.Mathlib.Omega.{arith}
-use Rattle.dhcp.proofs.Pieces.{nothing-yet, behind}
+use Rattle.dhcp_reply.proofs.Pieces.{nothing-yet, behind}
 use Rattle.base.specs.Buffer.{put}
 use Rattle.slirp.proofs.ArpPieces.{fixed, reply-pieces}
 use borrow.Author.Needs.{needs}

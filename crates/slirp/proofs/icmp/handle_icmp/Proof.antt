@@ -10,7 +10,7 @@ use Rattle.wire.specs.Rfc894.{body, sourceMac}
 use Rattle.base.specs.Buffer.{put}
 use Rattle.wire.specs.Rfc792.{echo}
 use Rattle.base.proofs.Lists.{from-on}
-use Rattle.slirp.proofs.Echo.{length-echo}
+use Rattle.echo_reply.proofs.Echo.{length-echo}
 use Rattle.slirp.proofs.Framing.{too-small, framed-in-place}
 use borrow.Author.Needs.{needs}
 use Rattle.slirp.proofs.icmp.handle_icmp.Statement.{statement}

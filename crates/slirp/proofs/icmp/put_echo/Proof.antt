@@ -1,6 +1,6 @@
 -- `icmp::put_echo` meets its contract: four bytes, and the request's others behind them.
 use Rattle.base.proofs.Lists.{from-on}
-use Rattle.slirp.proofs.Echo.{echo-put}
+use Rattle.echo_reply.proofs.Echo.{echo-put}
 use borrow.Author.Needs.{needs}
 use Rattle.slirp.proofs.icmp.put_echo.Statement.{statement}
 use Rattle.slirp.proofs.icmp.put_echo.Tie as tie

@@ -3,13 +3,14 @@ use mathlib.Core.Path.{_≡_, refl, sym, _∙_}
 use native.Mathlib.Omega.{arith}
 use lib.ListN.{length}
 use lib.ListN.{length-map}
-use Rattle.dhcp.specs.Rfc2131.{reply}
-use Rattle.dhcp.proofs.ReadBack.{FourBytes, reply-reads-back}
+use Rattle.dhcp_reply.specs.Reply.{reply}
+use Rattle.record.specs.Network.{FourBytes}
+use Rattle.dhcp_reply.proofs.ReadBack.{reply-reads-back}
 use Rattle.wire.specs.Rfc894.{sourceMac}
 use Rattle.record.specs.Network.{broadcastOf}
 use Rattle.wire.specs.Rfc768.{datagram}
 use Rattle.frames.proofs.Lengths.{length-datagram}
-use Rattle.rules.specs.Rfc2131.{dhcpFrame}
+use Rattle.dhcp_reply.specs.Reply.{dhcpFrame}
 use Rattle.record.specs.Guest.{noting}
 use Rattle.slirp.proofs.Framing.{too-small, framed-in-place}
 use borrow.Author.Needs.{needs}

@@ -2,7 +2,7 @@
 use mathlib.Core.Path.{refl, sym, _∙_}
 use native.Mathlib.Omega.{arith}
 use lib.ListN.{length-map}
-use Rattle.dhcp.proofs.ReadBack.{FourBytes}
+use Rattle.record.specs.Network.{FourBytes}
 use Rattle.slirp.proofs.LeasePieces.{datagram-put}
 use borrow.Author.Needs.{needs}
 use Rattle.slirp.proofs.lease.put_datagram.Statement.{statement}
