@@ -51,11 +51,11 @@ module _ (mac : List ℕ) (id : ℕ) (source target request b : List ℕ) where
   too-long h l = simp (le-leb 4 (length request) h, lt-leb (length request) 65515 l)
 
   module _ (h : 4 ≤ length request) (l : length request ≤ 65515) (six : length mac ≡ 6) (four : length source ≡ 4) (four′ : length target ≡ 4) where
-    there : putEcho mac id source target request b ≡ putIfFits 0 (ipFrame mac id 1 source target (echo request)) b
+    pub there : putEcho mac id source target request b ≡ putIfFits 0 (ipFrame mac id 1 source target (echo request)) b
     unfolding putEcho
     there = simp (le-leb 4 (length request) h, le-leb (length request) 65515 l)
 
-    long : length (ipFrame mac id 1 source target (echo request)) ≡ 34 + length request
+    pub long : length (ipFrame mac id 1 source target (echo request)) ≡ 34 + length request
     long = length-ipFrame source target four four′ mac (echo request) id 1 six ∙ ap (λ (n : ℕ). 34 + n) (length-echo request h)
 
     pub no-room : length b < 34 + length request → putEcho mac id source target request b ≡ b

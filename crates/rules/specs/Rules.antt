@@ -14,8 +14,8 @@ use Rattle.wire.specs.Rfc792.{messageType}
 use Rattle.wire.specs.Rfc826 as Arp
 use Rattle.wire.specs.Rfc894.{body, typeOf}
 use Rattle.wire.specs.Rfc2131 as Dhcp
-use Rattle.record.specs.Answer.{Outcome, fitting}
-use Rattle.record.specs.Guest.{spent}
+use Rattle.record.specs.Answer.{Outcome, unwritten, framing}
+use Rattle.record.specs.Guest.{spent, noting}
 use Rattle.record.specs.declared.guest.Guest.{Guest}
 use Rattle.record.specs.declared.network.Network.{Network}
 use Rattle.echo_reply.specs.Reply.{echoFrame}
