@@ -16,7 +16,7 @@ use Rattle.published.specs.Backend.{Call, «handle_tcp», SlirpBackend, withXid
 use Rattle.published.specs.Slirp.{send}
 use Rattle.wire.specs.Rfc792.{echo}
 use Rattle.rules.specs.Rules.{payload, decision, outcomeOf, outcome}
-use Rattle.record.specs.Guest.{noting}
+use Rattle.record.specs.Guest.{noting, known}
 use Rattle.record.specs.Answer.{unwritten, framing}
 use Rattle.rules.specs.Seen.{CutMessage, TooLongPing}
 use Rattle.rules.specs.declared.decision.Decision.{Decision}
@@ -55,7 +55,7 @@ module _ (self : SlirpBackend) (frame : List ℕ) where
 
   came-pushed : (image : List ℕ) (counter xid : ℕ)
       → Came self frame (pushed image counter (withXid xid self))
-      (record { writing = writtenAs image; guest = record { mac = self .«guest_mac»; id = counter; xid = xid } })
+      (record { writing = writtenAs image; guest = known (self .«guest_mac») counter xid })
   came-pushed image counter xid =
       record {
         came = rw (one-added (self .«rx_pending») image, none-added (self .calls));

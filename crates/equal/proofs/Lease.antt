@@ -17,7 +17,7 @@ use Rattle.wire.specs.Rfc768.{datagram}
 use Rattle.wire.specs.Rfc791.{header}
 use Rattle.frames.specs.Frames.{ipFrame}
 use Rattle.frames.proofs.Lengths.{length-datagram}
-use Rattle.dhcp_reply.specs.Reply.{dhcpFrame}
+use Rattle.dhcp_reply.specs.Reply.{dhcpFrame, dhcpFrameTo}
 use Rattle.base.proofs.Lists.{all-bytes}
 use Rattle.options.specs.Rfc2132.{option, Walked, typed, cut, decides, walk}
 use Rattle.options.proofs.Places.{walkAt, past-end, at-255, at-0, at-last, at-other, at-type, at-cut}
@@ -123,7 +123,7 @@ build-reply-given xid type mac six = rw (all-bytes mac 6 six) (ap (λ (x : List 
 module _ (self : SlirpBackend) (frame : List ℕ) (typed : GuestTyped (recordOf self)) (long : 34 ≤ length frame) (xid type : ℕ) where
   pub lease-sent : «send_dhcp_reply» (withXid xid self) (whole frame) xid type
       ≡ gives (pushed (dhcpFrame network (recordOf self) frame xid type) ((self .counter + 1) % 65536) (withXid xid self))
-  unfolding «send_dhcp_reply» dhcpFrame ipFrame
+  unfolding «send_dhcp_reply» dhcpFrameTo ipFrame
   lease-sent =
       let message = reply network (self .«guest_mac») xid type in
       let whole-datagram = datagram 68 67 message in

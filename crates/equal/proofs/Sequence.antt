@@ -1,5 +1,5 @@
 -- A guest's calls one after the other, and the same frames sent to one backend of the Rust: each answer is the Rust's, and the record is carried on alike.
-use Prim.Native.Nat.{ℕ, _+_, _%_}
+use Prim.Native.Nat.{ℕ}
 use mathlib.Core.Path.{sym, subst, _∙_}
 use mathlib.Core.Bool.{Bool, true, false, cond}
 use mathlib.Core.List.{List, [], _∷_}
@@ -7,6 +7,7 @@ use native.Mathlib.Omega.{arith}
 use lib.Dec.{ltb}
 use lib.ListN.{length}
 use Rattle.record.specs.Network.{network}
+use Rattle.record.specs.Guest.{noting, spent}
 use Rattle.record.specs.declared.guest.Guest.{Guest}
 use Rattle.published.specs.Backend.{SlirpBackend}
 use Rattle.rules.specs.Rules.{decision, outcomeOf, outcome}
@@ -20,11 +21,14 @@ use Rattle.equal.proofs.Demand2.{handle-equals-the-rust}
 
 -- a record stays what its types say: its MAC is kept, and its id is the old one or the next
 module _ (guest : Guest) (typed : GuestTyped guest) where
-  spent-typed : (xid : ℕ) → GuestTyped (record { mac = guest .mac; id = (guest .id + 1) % 65536; xid = xid })
-  spent-typed xid = record { mac = typed .mac; id = omega arith }
+  spent-typed : GuestTyped (spent guest)
+  spent-typed = record { mac = typed .mac; id = omega arith }
 
-  noted-typed : (xid : ℕ) → GuestTyped (record { mac = guest .mac; id = guest .id; xid = xid })
+  noted-typed : (xid : ℕ) → GuestTyped (noting xid guest)
   noted-typed xid = record { mac = typed .mac; id = typed .id }
+
+  both-typed : (xid : ℕ) → GuestTyped (spent (noting xid guest))
+  both-typed xid = record { mac = typed .mac; id = omega arith }
 
   framed-typed : (next : Guest) (need room : ℕ) (image : List ℕ) → GuestTyped next → GuestTyped (framing guest next need room image .guest)
   unfolding framing
@@ -39,8 +43,8 @@ module _ (guest : Guest) (typed : GuestTyped guest) where
   outcome-typed frame room Drop = typed
   outcome-typed frame room (DropNoting xid) = noted-typed xid
   outcome-typed frame room ArpReply = framed-typed guest 42 room _ typed
-  outcome-typed frame room (EchoReply start) = framed-typed _ _ room _ (spent-typed (guest .xid))
-  outcome-typed frame room (DhcpReply xid type) = framed-typed _ 342 room _ (spent-typed xid)
+  outcome-typed frame room (EchoReply start) = framed-typed _ _ room _ spent-typed
+  outcome-typed frame room (DhcpReply xid type) = framed-typed _ 342 room _ (both-typed xid)
   outcome-typed frame room (Dns start len) = typed
   outcome-typed frame room (Relay start len) = typed
   outcome-typed frame room (Tcp len) = typed

@@ -8,6 +8,7 @@ use Rattle.wire.specs.Rfc768.{sourcePort, targetPort}
 use Rattle.wire.specs.Rfc791.{sourceOf, targetOf}
 use Rattle.wire.specs.Rfc894.{body, sourceMac}
 use Rattle.record.specs.Answer.{Writing, Outcome}
+use Rattle.record.specs.Guest.{known, withId}
 use Rattle.record.specs.declared.guest.Guest.{Guest}
 use Rattle.published.specs.Rust.{Slice, whole, lenOf}
 use Rattle.published.specs.Frames.{Endpoints as RustEndpoints, Counted}
@@ -22,7 +23,7 @@ theEnds ends =
 
 -- the record with a backend's "IP id, xid and guest MAC"
 abbrev pub recordOf : SlirpBackend → Guest
-recordOf self = record { mac = self .«guest_mac»; id = self .counter; xid = self .«dhcp_xid» }
+recordOf self = known (self .«guest_mac») (self .counter) (self .«dhcp_xid»)
 
 -- a call of what is outside, in document 01's numbers: where the data it is handed starts in the frame, and its length
 abbrev pub handoff : Call → List ℕ
@@ -76,4 +77,4 @@ AllHanded frame (call ∷ calls) = Handed frame call × AllHanded frame calls
 
 -- what came of a builder that took this record's id: its frame, and the record with the counter behind it
 abbrev pub cameOfBuilder : Guest → Counted → Outcome
-cameOfBuilder guest made = record { writing = writtenAs (made .frame); guest = record { mac = guest .mac; id = made .counter; xid = guest .xid } }
+cameOfBuilder guest made = record { writing = writtenAs (made .frame); guest = withId (made .counter) guest }

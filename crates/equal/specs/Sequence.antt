@@ -3,6 +3,7 @@ use Prim.Native.Nat.{ℕ, _≤_}
 use mathlib.Core.Path.{_≡_}
 use mathlib.Core.List.{List, [], _∷_}
 use lib.ListN.{length}
+use Rattle.base.specs.Runs.{Runs}
 use Rattle.record.specs.Answer.{Meets}
 use Rattle.record.specs.Network.{network}
 use Rattle.record.specs.declared.answer.Answer.{Answer}
@@ -22,10 +23,17 @@ pub record Exchange : Type 0 where
   pub answer : Answer
   pub bytes : Bytes frame
 
--- a guest served as `handle` promises
+-- answered as `handle` promises, from this record
+abbrev pub Answered : Guest → Exchange → Type 0
+Answered guest x = Meets (outcome network guest (x .frame) (length (x .before))) (x .before) (x .after) (x .answer)
+
+-- the record that it leaves
+abbrev pub leftBy : Exchange → Guest
+leftBy x = x .answer .guest
+
+-- a guest served as `handle` promises, each time with the record that the call before left
 abbrev pub Served : Guest → List Exchange → Type 0
-Served guest [] = Unit
-Served guest (x ∷ xs) = Meets (outcome network guest (x .frame) (length (x .before))) (x .before) (x .after) (x .answer) × Served (x .answer .guest) xs
+Served guest xs = Runs Answered leftBy guest xs
 
 -- the same frames sent to the Rust: as long as it gives a backend and the reply has room, each answer is the Rust's
 abbrev pub AsTheRust : SlirpBackend → List Exchange → Type 0

@@ -33,7 +33,7 @@ among-8 type (inr e) = omega arith
 
 module _ (net : Network) (guest : Guest) (frame : List ℕ) (four : FourBytes net) (six : length (guest .mac) ≡ 6) where
   derived-as : (d : Decision) → Says net frame d → (n : ℕ) → n ≡ length (built net guest frame d) → 0 < n → DerivedAs n (built net guest frame d) d
-  unfolding Says dhcpFrame
+  unfolding Says dhcpFrameTo
   derived-as ArpReply s n e p = arp-derived net frame (four .gateway) n e
   derived-as (EchoReply start) s n e p =
       let eight : 8 ≤ length (drop start frame) = subst (λ (k : ℕ). 8 ≤ length (drop k frame)) (sym (s .1)) (s .0 .whole) in

@@ -21,11 +21,11 @@ use Rattle.sums.specs.Rfc1071.{words, sum, total, fold, checksum}
 use Rattle.laws.specs.Marked.{Holds, All, call, marked, unmarked, longPing}
 
 pub marked-hold : All marked
-unfolding checksum total words sum fold header headerWith ipFrame datagram walk walkFrom reply echo echoWith replyTo dhcpFrame decision arpDecision ipDecision icmpDecision udpDecision dhcpDecision framing outcomeOf outcome
+unfolding checksum total words sum fold header headerWith ipFrame datagram walk walkFrom reply echo echoWith replyTo dhcpFrameTo decision arpDecision ipDecision icmpDecision udpDecision dhcpDecision framing outcomeOf outcome
 marked-hold = (refl, (refl, (refl, (refl, (refl, (refl, (refl, (refl, (refl, (refl, (refl, (refl, tt))))))))))))
 
 pub unmarked-hold : All unmarked
-unfolding checksum total words sum fold header headerWith ipFrame datagram walk walkFrom reply echo echoWith replyTo dhcpFrame decision arpDecision ipDecision icmpDecision udpDecision dhcpDecision framing outcomeOf outcome
+unfolding checksum total words sum fold header headerWith ipFrame datagram walk walkFrom reply echo echoWith replyTo dhcpFrameTo decision arpDecision ipDecision icmpDecision udpDecision dhcpDecision framing outcomeOf outcome
 unmarked-hold = (refl, (refl, (refl, (refl, (refl, tt)))))
 
 pub long-ping : longPing
