@@ -6,7 +6,7 @@ use lib.ListN.{drop, getD}
 use Rattle.grammar.specs.Grammar.{ItemList, options53}
 use Rattle.grammar.specs.Report.{values}
 use Rattle.grammar.proofs.Unique.{list-unique}
-use Rattle.messages.specs.Messages.{MessageRead}
+use Rattle.dhcp_strict.specs.MessageRead.{MessageRead}
 
 pub read-message-answers-once : (s : List ℕ) (at a b : ℕ) → MessageRead s at a → MessageRead s at b → a ≡ b
 unfolding MessageRead

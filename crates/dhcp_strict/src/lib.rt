@@ -6,42 +6,29 @@ ghost use Prim.Native.Nat.{_+_, _≤_, _<_};
 ghost use lib.ListN.{length, drop};
 ghost use Rattle.base.specs.Bytes.{u8At};
 ghost use Rattle.grammar.specs.Grammar.{DHCPHeader};
-ghost use Rattle.messages.specs.Messages.{AllZero, Listed, MessageRead};
+ghost use Rattle.dhcp_strict.specs.MessageRead.{MessageRead};
+ghost use Rattle.dhcp_strict.specs.helpers.AllZero.{AllZero};
+ghost use Rattle.dhcp_strict.specs.helpers.Listed.{Listed};
 ghost use Rattle.base.specs.Tells.{Tells};
 use wire::bytes::byte_at;
 use wire::bytes::u32be;
+use wire::dhcp::BOOT_REPLY;
+use wire::dhcp::BOOT_REQUEST;
+use wire::dhcp::COOKIE;
+use wire::dhcp::END;
+use wire::dhcp::ETHERNET;
+use wire::dhcp::FIXED;
+use wire::dhcp::HARDWARE;
+use wire::dhcp::HARDWARE_LENGTH;
+use wire::dhcp::LAST_TYPE;
+use wire::dhcp::MAC_LENGTH;
+use wire::dhcp::MAGIC_COOKIE;
+use wire::dhcp::MESSAGE_TYPE;
+use wire::dhcp::OPERATION;
+use wire::dhcp::PAD;
 
-// The fixed fields and the cookie.
-pub const HEADER: usize = 240;
-
+// Document 01's limit: a message fills at most a packet of 1,500 bytes.
 const LONGEST: usize = 1472;
-
-// Fields.
-const OPERATION: usize = 0;
-
-const HARDWARE: usize = 1;
-
-const HARDWARE_LENGTH: usize = 2;
-
-const COOKIE: usize = 236;
-
-// Values.
-const BOOT_REQUEST: u8 = 1;
-
-const BOOT_REPLY: u8 = 2;
-
-const ETHERNET: u8 = 1;
-
-const MAC_LENGTH: u8 = 6;
-
-const MAGIC_COOKIE: u32 = 0x63825363;
-
-// Codes of items, and of the list's end.
-const PAD: u8 = 0;
-
-const MESSAGE_TYPE: u8 = 53;
-
-const END: u8 = 255;
 
 // The type of the message that starts at `at` and runs to the end of the frame; 0 where it is none.
 pub fn read_message(frame: &[u8], at: usize) -> u8
@@ -53,7 +40,7 @@ pub fn read_message(frame: &[u8], at: usize) -> u8
     if !has_header(&frame[at..]) {
         return 0;
     }
-    read_list(frame, at + HEADER, 0)
+    read_list(frame, at + FIXED, 0)
 }
 
 // Whether what stands before the list is right, and the length of the whole message.
@@ -61,7 +48,7 @@ fn has_header(message: &[u8]) -> bool
     ensures { λ r. ⌜ Tells r (DHCPHeader (now (message .entry))) ⌝ }
 {
     let len = message.len();
-    if len < HEADER {
+    if len < FIXED {
         return false;
     }
     if LONGEST < len {
@@ -133,7 +120,7 @@ fn read_item(frame: &[u8], at: usize, seen: u8) -> u8
     if value == 0 {
         return 0;
     }
-    if 8 < value {
+    if LAST_TYPE < value {
         return 0;
     }
     read_list(frame, at + 3, value)

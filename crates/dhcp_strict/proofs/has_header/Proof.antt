@@ -3,8 +3,8 @@ use borrow.Author.Needs.{needs}
 use mathlib.Core.Path.{sym, _∙_}
 use native.Mathlib.Omega.{arith}
 use Rattle.base.proofs.Telling.{tells-eq, one-or-two, at-least-1, at-most-2}
-use Rattle.messages.proofs.has_header.Statement.{statement}
-use Rattle.messages.proofs.has_header.Tie as tie
+use Rattle.dhcp_strict.proofs.has_header.Statement.{statement}
+use Rattle.dhcp_strict.proofs.has_header.Tie as tie
 
 returns-3 : tie.Need-returns-3
 returns-3 c = λ a. let least = at-least-1 _ (a .operation) in omega (arith, least)

@@ -13,9 +13,10 @@ use lib.Seq.{drop-cons, drop-drop, length-take-le}
 use borrow.Author.Tests.{ne-eqb, eqb-false}
 use Rattle.base.specs.Bytes.{u8At}
 use Rattle.grammar.specs.Grammar.{Item, pad, option, ItemList, END, item, IsList, options53}
-use Rattle.messages.specs.Messages.{AllZero, Gives, before, within, ListGives, Listed}
+use Rattle.dhcp_strict.specs.helpers.AllZero.{AllZero}
+use Rattle.dhcp_strict.specs.helpers.Listed.{Gives, before, within, ListGives, Listed}
 use Rattle.grammar.proofs.Items.{Starts, ends, pads, opts, starts, list-nil, no-cons, head-same, tail-same}
-use Rattle.messages.proofs.AllZero.{all-zeros, zeros-all}
+use Rattle.dhcp_strict.proofs.AllZero.{all-zeros, zeros-all}
 
 -- an option at `at`, and the rest of the list behind it
 record OptionAt (s : List ℕ) (at len : ℕ) (rest : ItemList) : Type 0 where

@@ -5,10 +5,10 @@ use mathlib.Core.List.{List}
 use native.Mathlib.Omega.{arith}
 use lib.ListN.{drop, length-drop}
 use Rattle.grammar.specs.Grammar.{DHCPHeader}
-use Rattle.messages.proofs.MessageRead.{no-message, message-read}
+use Rattle.dhcp_strict.proofs.MessageRead.{no-message, message-read}
 use Rattle.base.proofs.Telling.{tells-not, tells-yes, of-rest}
-use Rattle.messages.proofs.read_message.Statement.{statement}
-use Rattle.messages.proofs.read_message.Tie as tie
+use Rattle.dhcp_strict.proofs.read_message.Statement.{statement}
+use Rattle.dhcp_strict.proofs.read_message.Tie as tie
 
 returns : tie.Need-returns
 returns c =

@@ -7,7 +7,8 @@ use lib.ListN.{drop}
 use Rattle.base.specs.Bytes.{u8At}
 use Rattle.grammar.specs.Grammar.{DHCPHeader, TypedOnce, options53}
 use Rattle.grammar.specs.Report.{values}
-use Rattle.messages.specs.Messages.{Gives, before, within, ListGives, Listed, MessageRead}
+use Rattle.dhcp_strict.specs.MessageRead.{MessageRead}
+use Rattle.dhcp_strict.specs.helpers.Listed.{Gives, before, within, ListGives, Listed}
 
 pub no-message : (s : List ℕ) (at : ℕ) → (DHCPHeader (drop at s) → ⊥) → MessageRead s at 0
 unfolding MessageRead

@@ -5,7 +5,7 @@ use mathlib.Core.List.{List, [], _∷_}
 use native.Mathlib.Numerals.{add-one}
 use lib.ListN.{length, drop, replicate, getD, drop-of-length-le}
 use lib.Seq.{drop-cons}
-use Rattle.messages.specs.Messages.{AllZero}
+use Rattle.dhcp_strict.specs.helpers.AllZero.{AllZero}
 
 pub zero-first : (s : List ℕ) (i : ℕ) → i < length s → AllZero (drop i s) → getD s i 0 ≡ 0
 unfolding AllZero

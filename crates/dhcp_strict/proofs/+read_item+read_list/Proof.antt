@@ -8,21 +8,22 @@ use native.Mathlib.Omega.{arith}
 use native.Mathlib.Nat.{pos-of-ne-zero}
 use lib.ListN.{length, drop}
 use Rattle.base.specs.Bytes.{u8At}
-use Rattle.messages.specs.Messages.{AllZero, Listed}
+use Rattle.dhcp_strict.specs.helpers.AllZero.{AllZero}
+use Rattle.dhcp_strict.specs.helpers.Listed.{Listed}
 use Rattle.base.proofs.Telling.{tells-not, tells-yes}
-use Rattle.messages.proofs.Listing.{past, end-refused, end-taken, pad-on, option-cut, option-over, other-on, second-type, type-length, type-small, type-large, type-on}
+use Rattle.dhcp_strict.proofs.Listing.{past, end-refused, end-taken, pad-on, option-cut, option-over, other-on, second-type, type-length, type-small, type-large, type-on}
 use borrow.Fn.Kinds.{In}
 use borrow.Fn.PlainCycle.{Measures, is, falls, and}
-use Rattle.messages.proofs.read_item.Reads as read-item
-use Rattle.messages.proofs.read_item.Kinds as read-item-kinds
-use Rattle.messages.proofs.+read_item+read_list.Lts-read_item as read-item-lts
-use Rattle.messages.proofs.read_list.Reads as read-list
-use Rattle.messages.proofs.read_list.Kinds as read-list-kinds
-use Rattle.messages.proofs.+read_item+read_list.Lts-read_list as read-list-lts
+use Rattle.dhcp_strict.proofs.read_item.Reads as read-item
+use Rattle.dhcp_strict.proofs.read_item.Kinds as read-item-kinds
+use Rattle.dhcp_strict.proofs.+read_item+read_list.Lts-read_item as read-item-lts
+use Rattle.dhcp_strict.proofs.read_list.Reads as read-list
+use Rattle.dhcp_strict.proofs.read_list.Kinds as read-list-kinds
+use Rattle.dhcp_strict.proofs.+read_item+read_list.Lts-read_list as read-list-lts
 use Rattle.wire.proofs.bytes.byte_at.Reads as byte-at-reads
-use Rattle.messages.proofs.zeros.Reads as zeros-reads
-use Rattle.messages.proofs.+read_item+read_list.{statement}
-use Rattle.messages.proofs.+read_item+read_list.Tie.{close}
+use Rattle.dhcp_strict.proofs.zeros.Reads as zeros-reads
+use Rattle.dhcp_strict.proofs.+read_item+read_list.{statement}
+use Rattle.dhcp_strict.proofs.+read_item+read_list.Tie.{close}
 
 abbrev μ-read-item : Measures 1 read-item-kinds.ps ℕ
 μ-read-item κs a = (length (a .0 .now) - a .1 .0) + (length (a .0 .now) - a .1 .0)

@@ -2,10 +2,10 @@
 use borrow.Author.Needs.{needs}
 use Prim.Native.Nat.{_-_}
 use lib.ListN.{length, drop}
-use Rattle.messages.specs.Messages.{AllZero}
-use Rattle.messages.proofs.AllZero.{zero-first, zero-rest, zero-more, zero-none}
-use Rattle.messages.proofs.zeros.Statement.{statement}
-use Rattle.messages.proofs.zeros.Tie as tie
+use Rattle.dhcp_strict.specs.helpers.AllZero.{AllZero}
+use Rattle.dhcp_strict.proofs.AllZero.{zero-first, zero-rest, zero-more, zero-none}
+use Rattle.dhcp_strict.proofs.zeros.Statement.{statement}
+use Rattle.dhcp_strict.proofs.zeros.Tie as tie
 
 abbrev Inv-loop : tie.InvT-loop
 Inv-loop frame from i₀ i = (AllZero (drop i frame) → AllZero (drop from frame)) × (AllZero (drop from frame) → AllZero (drop i frame))
