@@ -8,9 +8,9 @@ use lib.ListN.{take, length-take}
 use Rattle.sums.specs.Rfc1071.{total, fold}
 use Rattle.grammar.specs.Grammar.{headerLength, Unfragmented}
 use Rattle.base.proofs.Telling.{tells-not, tells-yes}
-use Rattle.reader.proofs.Reading.{tells-sums}
-use Rattle.reader.proofs.ipv4.is_ipv4.Statement.{statement}
-use Rattle.reader.proofs.ipv4.is_ipv4.Tie as tie
+use Rattle.packets_strict.proofs.Reading.{tells-sums}
+use Rattle.packets_strict.proofs.ipv4.is_ipv4.Statement.{statement}
+use Rattle.packets_strict.proofs.ipv4.is_ipv4.Tie as tie
 
 returns-5 : tie.Need-returns-5
 returns-5 c = λ a. tells-not {A = Unfragmented (c .before .before .before .before .before .before .before .before .before .before .args .packet .now)} (c .before .is-unfragmented .result) (c .before .is-unfragmented .ensures) (c .if5 .taken) (a .unfragmented)

@@ -4,9 +4,9 @@ use mathlib.Core.Path.{refl, sym, _∙_}
 use mathlib.Core.Logic.{inl, inr}
 use borrow.Author.Tests.{eqb-false}
 use Rattle.base.proofs.Telling.{tells-eq, first-of, second-of}
-use Rattle.reader.proofs.Reading.{word-behind}
-use Rattle.reader.proofs.payloads.carries_dhcp.Statement.{statement}
-use Rattle.reader.proofs.payloads.carries_dhcp.Tie as tie
+use Rattle.packets_strict.proofs.Reading.{word-behind}
+use Rattle.packets_strict.proofs.payloads.carries_dhcp.Statement.{statement}
+use Rattle.packets_strict.proofs.payloads.carries_dhcp.Tie as tie
 
 returns : tie.Need-returns
 returns c =

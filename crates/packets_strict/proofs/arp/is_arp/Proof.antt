@@ -3,8 +3,8 @@ use borrow.Author.Needs.{needs}
 use mathlib.Core.Path.{_∙_}
 use mathlib.Core.Logic.{inl, inr}
 use Rattle.base.proofs.Telling.{tells-eq, second-of}
-use Rattle.reader.proofs.arp.is_arp.Statement.{statement}
-use Rattle.reader.proofs.arp.is_arp.Tie as tie
+use Rattle.packets_strict.proofs.arp.is_arp.Statement.{statement}
+use Rattle.packets_strict.proofs.arp.is_arp.Tie as tie
 
 returns-6 : tie.Need-returns-6
 returns-6 c =
