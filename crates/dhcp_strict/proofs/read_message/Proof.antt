@@ -3,37 +3,41 @@ use borrow.Author.Needs.{needs}
 use Prim.Native.Nat.{ℕ}
 use mathlib.Core.List.{List}
 use native.Mathlib.Omega.{arith}
-use lib.ListN.{drop, length-drop}
+use lib.ListN.{length-drop}
 use Rattle.grammar.specs.Grammar.{DHCPHeader}
 use Rattle.dhcp_strict.proofs.MessageRead.{no-message, message-read}
-use Rattle.base.proofs.Telling.{tells-not, tells-yes, of-rest}
+use Rattle.base.proofs.Telling.{rest-not, rest-yes}
 use Rattle.dhcp_strict.proofs.read_message.Statement.{statement}
 use Rattle.dhcp_strict.proofs.read_message.Tie as tie
 
 returns : tie.Need-returns
 returns c =
-    let s : List ℕ = c .before .before .args .frame .now in
-    let at : ℕ = c .before .before .args .at in
-    no-message s at (λ header. let least = header .least in omega (arith, least, length-drop at s))
+    let start = c .before .before in
+    let s : List ℕ = start .args .frame .now in
+    no-message s (start .args .at) (λ header. let least = header .least in omega (arith, least, length-drop (start .args .at) s))
 
 returns-2 : tie.Need-returns-2
 returns-2 c =
-    let s : List ℕ = c .before .before .before .before .before .args .frame .now in
-    let at : ℕ = c .before .before .before .before .before .args .at in
-    no-message s at (tells-not {A = DHCPHeader (drop at s)} (c .before .has-header .result) (of-rest DHCPHeader at s (c .before .has-header .result) (c .before .has-header .ensures)) (c .if2 .taken))
+    let h = c .before in
+    let start = h .before .before .before .before in
+    let s : List ℕ = start .args .frame .now in
+    no-message s (start .args .at) (rest-not DHCPHeader (start .args .at) s (h .has-header .result) (h .has-header .ensures) (c .if2 .taken))
 
 read-list-requires : tie.Need-read-list-requires
 read-list-requires c κs =
-    let s : List ℕ = c .before .before .before .before .before .args .frame .now in
-    let at : ℕ = c .before .before .before .before .before .args .at in
-    let header = (tells-yes {A = DHCPHeader (drop at s)} (c .before .has-header .result) (of-rest DHCPHeader at s (c .before .has-header .result) (c .before .has-header .ensures)) (c .if2 .left)) in
-    omega (arith, header .most, length-drop at s)
+    let h = c .before in
+    let start = h .before .before .before .before in
+    let s : List ℕ = start .args .frame .now in
+    let header = rest-yes DHCPHeader (start .args .at) s (h .has-header .result) (h .has-header .ensures) (c .if2 .left) in
+    omega (arith, header .most, length-drop (start .args .at) s)
 
 returns-3 : tie.Need-returns-3
 returns-3 c =
-    let s : List ℕ = c .before .before .before .before .before .before .args .frame .now in
-    let at : ℕ = c .before .before .before .before .before .before .args .at in
-    message-read s at (c .read-list .result) (tells-yes {A = DHCPHeader (drop at s)} (c .before .before .has-header .result) (of-rest DHCPHeader at s (c .before .before .has-header .result) (c .before .before .has-header .ensures)) (c .before .if2 .left)) (c .read-list .ensures)
+    let h = c .before .before in
+    let start = h .before .before .before .before in
+    let s : List ℕ = start .args .frame .now in
+    let header = rest-yes DHCPHeader (start .args .at) s (h .has-header .result) (h .has-header .ensures) (c .before .if2 .left) in
+    message-read s (start .args .at) (c .read-list .result) header (c .read-list .ensures)
 
 pub read-message-spec : {M : Type 1} → statement M
 read-message-spec =

@@ -1,18 +1,10 @@
--- What the reader's helpers know of the frame that they are handed.
-use Prim.Native.Nat.{ℕ, _≤_}
+-- No reader has to believe this: what `read` has found out of a frame when it hands it on. Its promise (`Reads`) is proved from it.
+use Prim.Native.Nat.{ℕ}
 use mathlib.Core.Path.{_≡_}
 use mathlib.Core.List.{List}
-use lib.ListN.{length}
-use Rattle.base.specs.Bytes.{u16At}
-use Rattle.grammar.specs.Grammar.{Ethernet, IPv4, body, headerLength, ethernetLayer, ipLayer, payloadAt}
-use Rattle.reader.specs.Told.{layerOf}
+use Rattle.grammar.specs.Grammar.{Ethernet, IPv4, body, ethernetLayer, ipLayer, payloadAt}
+use Rattle.reader.specs.Reported.{layerOf}
 use Rattle.reader.specs.declared.parts.Layer.{Layer as Parts·Layer}
-
--- an IPv4 packet whose header is there, and whose total length is its own
-pub record Headed (packet : List ℕ) : Type 0 where
-  pub least : 20 ≤ headerLength packet
-  pub inside : headerLength packet ≤ length packet
-  pub total : u16At packet 2 ≡ length packet
 
 -- a frame with a right IPv4 header
 pub record Framed (frame : List ℕ) : Type 0 where
