@@ -17,7 +17,7 @@ use Rattle.grammar.specs.Grammar.{Layer, laid}
 use Rattle.grammar.specs.Report.{Report, arpKind, icmpKind, udpKind, dhcpKind, tcpKind, otherIPv4Kind, parts, refused}
 use Rattle.host.specs.Parts.{Reported, kindNumber, numberOf, places, placesOf}
 use Rattle.host.specs.Exported.{Built, Sent, Told, padded}
-use Rattle.reader.specs.Told.{told}
+use Rattle.reader.specs.Reported.{reportOf as told}
 use Rattle.reader.specs.declared.parts.Reading.{Reading}
 use Rattle.reader.specs.declared.parts.Reading.the-variants.{Arp, Icmp, Udp, Dhcp, Tcp as Reading·Tcp, OtherIpv4, Outside}
 use Rattle.rules.specs.Rules.{outcome}

@@ -12,7 +12,7 @@ use Rattle.record.specs.declared.answer.Verdict.{Verdict}
 use Rattle.grammar.specs.Report.{Reads}
 use Rattle.host.specs.Parts.{Reported, numberOf, placesOf}
 use Rattle.host.specs.Exported.{Built, Told, padded}
-use Rattle.reader.specs.Told.{told as told·reading}
+use Rattle.reader.specs.Reported.{reportOf as told·reading}
 use Rattle.reader.specs.declared.parts.Reading.{Reading}
 
 pub told-of : {w : Writing} {before after : List ℕ} {v : Verdict} {number : ℕ} {values : List ℕ}

@@ -18,7 +18,7 @@ use Rattle.record.specs.declared.network.Network.{Network}
 use Rattle.frames.proofs.InBuffer.{ip-frame-in-buffer, ip-frame-in-place-in-buffer, datagram-in-buffer}
 use Rattle.grammar.specs.Grammar.{Derivation, Derives}
 use Rattle.grammar.specs.Report.{refused, partsOf, Reads}
-use Rattle.reader.specs.Told.{told}
+use Rattle.reader.specs.Reported.{reportOf as told}
 use Rattle.reader.specs.declared.parts.Reading.{Reading}
 use Rattle.grammar.proofs.Exact.{parts-reported, derivation-behind, derived-taken, underived-refused}
 use Rattle.grammar.proofs.Unique.{unique}

@@ -15,7 +15,7 @@ use Rattle.record.specs.declared.guest.Guest.{Guest}
 use Rattle.record.specs.declared.network.Network.{Network}
 use Rattle.grammar.specs.Grammar.{Derivation, Derives}
 use Rattle.wire.specs.Rfc792.{echo}
-use Rattle.dhcp_reply.specs.Reply.{dhcpFrame}
+use Rattle.dhcp_reply.specs.Reply.{dhcpFrameTo}
 use Rattle.rules.specs.Rules.{decision}
 use Rattle.rules.specs.declared.decision.Decision.{Decision}
 use Rattle.rules.specs.declared.decision.Decision.the-variants.{Drop, DropNoting, ArpReply, EchoReply, DhcpReply, Dns, Relay, Tcp, TooLong, CutType}

@@ -14,7 +14,7 @@ use Rattle.wire.specs.Rfc791.{header, headerWith}
 use Rattle.frames.specs.Frames.{ipFrame}
 use Rattle.wire.specs.Rfc792.{echo, echoWith}
 use Rattle.arp_reply.specs.Reply.{replyTo}
-use Rattle.dhcp_reply.specs.Reply.{dhcpFrame}
+use Rattle.dhcp_reply.specs.Reply.{dhcpFrameTo}
 use Rattle.rules.specs.Rules.{decision, arpDecision, ipDecision, icmpDecision, udpDecision, dhcpDecision, outcomeOf, outcome}
 use Rattle.record.specs.Answer.{framing}
 use Rattle.sums.specs.Rfc1071.{words, sum, total, fold, checksum}
