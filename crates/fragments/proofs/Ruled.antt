@@ -6,7 +6,7 @@ use mathlib.Core.Path.{_≡_, refl, subst}
 use native.Mathlib.Omega.{arith}
 use borrow.Author.Tests.{not-false}
 use lib.ListN.{length}
-use Rattle.blocks.specs.Bitmap.{bit}
+use Rattle.bitmap.specs.Bitmap.{bit}
 use Rattle.fragments.specs.Rfc791.{packetOf}
 use Rattle.fragments.specs.Rules.{ofSize, isHeld, overlaps, wrongEnd, knownEnd, endWith, partRuling, packetRuling, ruling}
 use Rattle.fragments.specs.declared.answer.Answer.{Answer}

@@ -8,7 +8,7 @@ use borrow.Author.Tests.{eqb-true, le-leb}
 use lib.Dec.{eqb}
 use lib.ListN.{length, take, drop, length-drop}
 use lib.Seq.{length-take-le}
-use Rattle.blocks.specs.Bitmap.{bit, having, Marked}
+use Rattle.bitmap.specs.Bitmap.{bit, having, Marked}
 use Rattle.base.specs.Bytes.{part}
 use Rattle.base.specs.Buffer.{put, putIfFits}
 use Rattle.fragments.specs.Rules.{ofSize, blocksOf, endOf, firstBlock, stopBlock}

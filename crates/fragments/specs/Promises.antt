@@ -4,7 +4,7 @@ use mathlib.Core.Path.{_≡_}
 use mathlib.Core.List.{List, []}
 use lib.Dec.{leb}
 use lib.ListN.{length, take, replicate}
-use Rattle.blocks.specs.Bitmap.{bit, Marked}
+use Rattle.bitmap.specs.Bitmap.{bit, Marked}
 use Rattle.base.specs.Bytes.{part}
 use Rattle.base.specs.Buffer.{put}
 use mathlib.Core.Bool.{cond}

@@ -4,7 +4,7 @@ use mathlib.Core.Bool.{Bool, true, false, _&&_, _||_, not, cond}
 use mathlib.Core.List.{List}
 use lib.Dec.{eqb, ltb}
 use lib.ListN.{length}
-use Rattle.blocks.specs.Bitmap.{bit, count, having}
+use Rattle.bitmap.specs.Bitmap.{bit, count, having}
 use Rattle.fragments.specs.Answer.{Said, passed, stored, complete, paper}
 use Rattle.fragments.specs.Rfc791.{packetOf}
 use Rattle.fragments.specs.declared.answer.Answer.{Answer}

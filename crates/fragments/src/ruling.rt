@@ -2,7 +2,7 @@
 // line. All that changes the store stands in store.rt.
 ghost use mathlib.Core.Path.{_≡_};
 ghost use Prim.Native.Nat.{_≤_, _<_};
-ghost use Rattle.blocks.specs.Bitmap.{bit};
+ghost use Rattle.bitmap.specs.Bitmap.{bit};
 ghost use Rattle.fragments.specs.Rules.{ruling, partRuling, isHeld, sameDatagram, overlaps, knownEnd, wrongEnd, endWith, endOf, ofSize, blocksOf};
 use crate::answer::Answer;
 use crate::answer::Datagram;
@@ -120,7 +120,7 @@ fn has_block(fragment: Fragment, bits: &[u64]) -> bool
 {
     let first = fragment.offset / BLOCK;
     let stop = blocks_of(fragment.offset + fragment.length);
-    blocks::count(bits, first, stop) != 0
+    bitmap::count(bits, first, stop) != 0
 }
 
 // The end, as far as the store knows it.
@@ -154,7 +154,7 @@ fn has_wrong_end(fragment: Fragment, end: End, bits: &[u64]) -> bool
             if !fragment.last {
                 return false;
             }
-            blocks::count(bits, blocks_of(stop), BLOCKS) != 0
+            bitmap::count(bits, blocks_of(stop), BLOCKS) != 0
         }
     }
 }

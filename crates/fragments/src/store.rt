@@ -5,7 +5,7 @@ ghost use mathlib.Core.List.{[]};
 ghost use lib.Dec.{leb};
 ghost use lib.ListN.{length, take};
 ghost use mathlib.Core.Bool.{cond};
-ghost use Rattle.blocks.specs.Bitmap.{bit, having};
+ghost use Rattle.bitmap.specs.Bitmap.{bit, having};
 ghost use Rattle.fragments.specs.Rfc791.{packetOf};
 ghost use Rattle.fragments.specs.Rules.{endOf, firstBlock, stopBlock};
 ghost use Rattle.fragments.specs.Promises.{Takes, Effect, Settles, Releases, wholePayload, storedPayload, payloadOf};
@@ -51,7 +51,7 @@ fn store(fragment: Fragment, end: End, frame: &[u8], bytes: &mut [u8], bits: &mu
     let stop = start + fragment.length;
     put(bytes, fragment.offset, &frame[start..stop]);
     let first = fragment.offset / BLOCK;
-    blocks::mark(bits, first, blocks_of(fragment.offset + fragment.length));
+    bitmap::mark(bits, first, blocks_of(fragment.offset + fragment.length));
     settle(fragment.datagram, end, bits)
 }
 
@@ -62,7 +62,7 @@ fn settle(datagram: Datagram, end: End, bits: &[u64]) -> Taken
     match end {
         End::At(known) => {
             let blocks = blocks_of(known as usize);
-            if blocks::count(bits, 0, blocks) == blocks {
+            if bitmap::count(bits, 0, blocks) == blocks {
                 return Taken {
                     answer: Answer::Complete,
                     state: State::Complete {
@@ -157,7 +157,7 @@ pub fn release(state: State, bytes: &[u8], bits: &mut [u64]) -> Taken
             state,
         };
     }
-    blocks::clear(bits);
+    bitmap::clear(bits);
     Taken {
         answer: Answer::Released,
         state: State::Empty,

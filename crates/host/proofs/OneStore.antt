@@ -3,15 +3,15 @@ use Prim.Native.Nat.{ℕ}
 use mathlib.Core.List.{List}
 use mathlib.Core.Path.{_≡_, ap, ap₂, sym, _∙_}
 use lib.ListN.{length}
-use Rattle.blocks.specs.Bitmap.{bit}
+use Rattle.bitmap.specs.Bitmap.{bit}
 use mathlib.Core.Bool.{cond}
 use Rattle.fragments.specs.Answer.{paper}
 use Rattle.fragments.specs.Rules.{ruling}
 use Rattle.fragments.specs.declared.answer.Taken.{Taken}
 use Rattle.host.specs.Reassembly.{Took, Freed}
-use Rattle.states.proofs.OneAnswer.{one-taken, one-released, one-effect}
-use Rattle.states.specs.Told.{Tells, numberOf, changes, placeOf}
-use Rattle.states.specs.Words.{stateOf, wordsOf}
+use Rattle.store_words.proofs.OneAnswer.{one-taken, one-released, one-effect}
+use Rattle.store_words.specs.Told.{Tells, numberOf, changes, placeOf}
+use Rattle.store_words.specs.Words.{stateOf, wordsOf}
 
 -- what is told of one answer
 same-telling : {words words₁ words₂ : List ℕ} {n₁ n₂ : ℕ} {t u : Taken} → t ≡ u → Tells words words₁ t n₁ → Tells words words₂ u n₂ → (n₁ ≡ n₂) × (words₁ ≡ words₂)

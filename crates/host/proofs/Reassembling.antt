@@ -8,9 +8,9 @@ use Rattle.fragments.specs.Promises.{Takes, Releases}
 use Rattle.fragments.specs.declared.answer.State.{State}
 use Rattle.fragments.specs.declared.answer.Taken.{Taken}
 use Rattle.host.specs.Reassembly.{Took, Freed}
-use Rattle.states.proofs.Standing.{payload-stands, read-as, released-as}
-use Rattle.states.specs.Told.{Tells, placeOf, placedIn}
-use Rattle.states.specs.Words.{stateOf}
+use Rattle.store_words.proofs.Standing.{payload-stands, read-as, released-as}
+use Rattle.store_words.specs.Told.{Tells, placeOf, placedIn}
+use Rattle.store_words.specs.Words.{stateOf}
 
 pub took-of : {words frame bytes bits words′ bytes′ bits′ place : List ℕ} {number : ℕ} {state : State} (taken : Taken)
     → Tells words words′ taken number → state ≡ stateOf words → Takes state frame bytes bits bytes′ bits′ taken

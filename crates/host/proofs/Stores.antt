@@ -8,9 +8,9 @@ use Rattle.fragments.specs.Answer.{released, paper}
 use Rattle.fragments.specs.Rules.{ofSize, ruling}
 use Rattle.fragments.specs.declared.answer.State.the-variants.{Empty}
 use Rattle.host.specs.Reassembly.{Took, Freed}
-use Rattle.states.proofs.Standing.{leaves-alone, low-number}
-use Rattle.states.specs.Told.{numberOf, changes}
-use Rattle.states.specs.Words.{stateOf, wordsOf}
+use Rattle.store_words.proofs.Standing.{leaves-alone, low-number}
+use Rattle.store_words.specs.Told.{numberOf, changes}
+use Rattle.store_words.specs.Words.{stateOf, wordsOf}
 
 -- a store that is lent at its size is empty afterwards, whatever the words, the bytes and the bits were
 pub emptied : (words bytes bits words′ bits′ : List ℕ) (n : ℕ) → Freed words bytes bits words′ bits′ n → ofSize (length bytes) (length bits) ≡ true

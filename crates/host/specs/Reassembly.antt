@@ -6,8 +6,8 @@ use lib.ListN.{length, getD}
 use Rattle.base.specs.Bytes.{part}
 use Rattle.fragments.specs.Promises.{Takes, Releases, payloadOf}
 use Rattle.fragments.specs.declared.answer.Taken.{Taken}
-use Rattle.states.specs.Told.{Tells, placeOf, placedIn}
-use Rattle.states.specs.Words.{stateOf}
+use Rattle.store_words.specs.Told.{Tells, placeOf, placedIn}
+use Rattle.store_words.specs.Words.{stateOf}
 
 -- The promise of a call that takes a frame: it is `take`'s, on every byte and bit; the words are left or those of the new state, and are read as the
 -- state that the store is in; and the payload that the core hands out stands at the place that is told.

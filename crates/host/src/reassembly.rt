@@ -2,9 +2,9 @@
 ghost use Rattle.host.specs.Reassembly.{Took, Freed};
 use fragments::release;
 use fragments::take;
-use states::place;
-use states::state_of;
-use states::tell;
+use store_words::place;
+use store_words::state_of;
+use store_words::tell;
 
 #[no_mangle]
 pub extern "C" fn yavoledu_take(

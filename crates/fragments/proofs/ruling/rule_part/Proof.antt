@@ -1,6 +1,6 @@
 -- `rule_part` meets its contract, test by test.
 use mathlib.Core.Path.{sym, ap, _∙_}
-use Rattle.blocks.specs.Bitmap.{bit}
+use Rattle.bitmap.specs.Bitmap.{bit}
 use Rattle.fragments.specs.Rules.{partRuling, wrongEnd, endWith}
 use Rattle.fragments.specs.declared.answer.End.{End}
 use Rattle.fragments.specs.declared.ruling.Ruling.the-variants.{Store}

@@ -3,7 +3,7 @@ use Prim.Native.Nat.{_-_}
 use mathlib.Core.Path.{_≡_, refl, sym, ap, _∙_}
 use native.Mathlib.Omega.{arith}
 use borrow.Author.Tests.{eq-eqb, ne-eqb}
-use Rattle.blocks.specs.Bitmap.{bit, count}
+use Rattle.bitmap.specs.Bitmap.{bit, count}
 use Rattle.fragments.specs.Answer.{paper}
 use Rattle.fragments.specs.Rules.{blocksOf, settled}
 use borrow.Author.Needs.{needs}

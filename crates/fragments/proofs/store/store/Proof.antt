@@ -1,7 +1,7 @@
 -- `store` meets its contract: copied, marked, and settled by the blocks that are there then.
 use Prim.Native.Nat.{ℕ}
 use mathlib.Core.Path.{subst, _∙_}
-use Rattle.blocks.specs.Bitmap.{Marked}
+use Rattle.bitmap.specs.Bitmap.{Marked}
 use Rattle.fragments.specs.Promises.{Settles}
 use Rattle.fragments.specs.Rules.{firstBlock, stopBlock}
 use Rattle.fragments.proofs.Storing.{copied, marked}
