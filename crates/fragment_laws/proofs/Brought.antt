@@ -16,19 +16,20 @@ use Rattle.wire.specs.Rfc894.{body}
 use Rattle.base.specs.Buffer.{put}
 use Rattle.base.proofs.Lists.{length-put}
 use Rattle.fragments.specs.Promises.{Effect, Takes}
-use Rattle.fragments.specs.Rfc791.{packetOf}
-use Rattle.fragments.specs.Rules.{Outcome, blocksOf, firstBlock, endOf, stopBlock, sameDatagram, isHeld, knownEnd, wrongEnd, endWith, ruling, settled, outcomeOf}
+use Rattle.packets.specs.Packets.{packetOf}
+use Rattle.fragments.specs.Rules.{Outcome, blocksOf, firstBlock, stopBlock, sameDatagram, isHeld, knownEnd, wrongEnd, endWith, ruling, settled, outcomeOf}
+use Rattle.packets.specs.Packets.{endOf}
 use Rattle.fragments.specs.Answer as Answer
 use Rattle.fragments.specs.declared.answer.Answer.{Answer}
-use Rattle.fragments.specs.declared.answer.Datagram.{Datagram}
+use Rattle.packets.specs.declared.packet.Datagram.{Datagram}
 use Rattle.fragments.specs.declared.answer.End.{End}
 use Rattle.fragments.specs.declared.answer.End.the-variants.{Unknown, At}
 use Rattle.fragments.specs.declared.answer.State.{State}
 use Rattle.fragments.specs.declared.answer.State.the-variants.{Empty, Filling, Complete}
-use Rattle.fragments.specs.declared.packet.Fragment.{Fragment}
+use Rattle.packets.specs.declared.packet.Fragment.{Fragment}
 use Rattle.fragments.specs.declared.ruling.Ruling.{Ruling}
 use Rattle.fragments.specs.declared.ruling.Ruling.the-variants as Ruling
-use Rattle.fragments.proofs.Fitting.{at-block, part-is, part-fits, ends-at-block}
+use Rattle.packets.proofs.Fitting.{at-block, part-is, part-fits, ends-at-block}
 use Rattle.fragments.proofs.Ruled.{Stored, stored}
 use Rattle.fragments.proofs.Storing.{marked}
 use Rattle.fragment_laws.specs.Calls.{Store, Sized, Vacant, Call, after, Runs, asks, leaves}
@@ -140,15 +141,15 @@ module _ (store : Store) (sized : Sized store) (frame : List ℕ) (call : Call) 
     (m : Means (store .state) (store .bytes) (store .words) came) where
   -- a fragment is stored
   stores : (f : Fragment) (end : End) → Stored (store .state) (bit (store .words)) (packetOf frame) f end
-      → Effect (Ruling.Store f end) frame (store .bytes) (store .words) (call .bytes) (call .words)
+      → Effect (Ruling.Write f end) frame (store .bytes) (store .words) (call .bytes) (call .words)
       → Means (settled (f .datagram) end (having (bit (store .words)) (firstBlock f) (stopBlock f)) .state) (call .bytes) (call .words) (frame ∷ came) × Sized (after call)
   stores f end fs effect =
       let P : Fragment → Type 0 = λ g.
-      Stored (store .state) (bit (store .words)) (packetOf frame) g end → Effect (Ruling.Store g end) frame (store .bytes) (store .words) (call .bytes) (call .words)
+      Stored (store .state) (bit (store .words)) (packetOf frame) g end → Effect (Ruling.Write g end) frame (store .bytes) (store .words) (call .bytes) (call .words)
       → Means (settled (g .datagram) end (having (bit (store .words)) (firstBlock g) (stopBlock g)) .state) (call .bytes) (call .words) (frame ∷ came) × Sized (after call) in
       subst P (part-is frame f (fs .is-part)) own fs effect
     where
-      own : Stored (store .state) (bit (store .words)) (packetOf frame) (piece frame) end → Effect (Ruling.Store (piece frame) end) frame (store .bytes) (store .words) (call .bytes) (call .words)
+      own : Stored (store .state) (bit (store .words)) (packetOf frame) (piece frame) end → Effect (Ruling.Write (piece frame) end) frame (store .bytes) (store .words) (call .bytes) (call .words)
           → Means (settled (piece frame .datagram) end (thereWith store frame) .state) (call .bytes) (call .words) (frame ∷ came) × Sized (after call)
       own fs effect =
           let fit : Fit frame = fs .is-part in
@@ -182,7 +183,7 @@ module _ (store : Store) (sized : Sized store) (frame : List ℕ) (call : Call) 
           → Means (outcomeOf (store .state) (bit (store .words)) r .state) (call .bytes) (call .words) (frame ∷ came) × Sized (after call)
       go (Ruling.Refuse a) e u = same u
       go Ruling.Pass e u = same u
-      go (Ruling.Store f end) e u = stores f end (stored (store .state) frame (length (store .bytes)) (store .words) f end e .1) u
+      go (Ruling.Write f end) e u = stores f end (stored (store .state) frame (length (store .bytes)) (store .words) f end e .1) u
 
 -- call by call
 pub means : (frames : List (List ℕ)) (store : Store) (calls : List Call) (came : List (List ℕ)) → Sized store → Means (store .state) (store .bytes) (store .words) came

@@ -12,16 +12,17 @@ use Rattle.bitmap.specs.Bitmap.{bit, count, having}
 use Rattle.base.specs.Bytes.{part}
 use Rattle.wire.specs.Rfc894.{body}
 use Rattle.base.proofs.Lists.{length-put}
-use Rattle.fragments.specs.Answer.{stored, complete, paper}
+use Rattle.fragments.specs.Answer.{stored, complete, saidFor}
 use Rattle.fragments.specs.Promises.{Effect, Takes}
-use Rattle.fragments.specs.Rules.{Outcome, ofSize, blocksOf, firstBlock, endOf, stopBlock, sameDatagram, isHeld, knownEnd, overlaps, wrongEnd, endWith, partRuling, packetRuling, ruling, settled, outcomeOf}
-use Rattle.fragments.specs.declared.answer.Datagram.{Datagram}
+use Rattle.fragments.specs.Rules.{Outcome, ofSize, blocksOf, firstBlock, stopBlock, sameDatagram, isHeld, knownEnd, overlaps, wrongEnd, endWith, partRuling, packetRuling, ruling, settled, outcomeOf}
+use Rattle.packets.specs.Packets.{endOf}
+use Rattle.packets.specs.declared.packet.Datagram.{Datagram}
 use Rattle.fragments.specs.declared.answer.End.{End}
 use Rattle.fragments.specs.declared.answer.End.the-variants.{Unknown, At}
 use Rattle.fragments.specs.declared.answer.State.the-variants.{Filling, Complete}
 use Rattle.fragments.specs.declared.ruling.Ruling.{Ruling}
 use Rattle.fragments.specs.declared.ruling.Ruling.the-variants as Ruling
-use Rattle.fragments.proofs.Fitting.{at-block, part-fits}
+use Rattle.packets.proofs.Fitting.{at-block, part-fits}
 use Rattle.fragments.proofs.Storing.{marked}
 use Rattle.fragment_laws.specs.Calls.{Store, Sized, Call, after}
 use Rattle.fragment_laws.specs.Trains.{All, Some, EachTwo, piece, Fit, Covers, byteFor, Apart, lasts}
@@ -137,7 +138,7 @@ module _ (d : Datagram) (end : ℕ) (store : Store) (frame : List ℕ) (todo : L
       go false e (At end′) h = rw (e, le-ltb end′ (endOf (piece frame)) (omega (arith, h .0, c .awaited .0 .within)))
 
   -- so it is stored
-  rules : ruling (store .state) frame (length (store .bytes)) (store .words) ≡ Ruling.Store (piece frame) (endWith (piece frame) (knownEnd (store .state)))
+  rules : ruling (store .state) frame (length (store .bytes)) (store .words) ≡ Ruling.Write (piece frame) (endWith (piece frame) (knownEnd (store .state)))
   unfolding ruling packetRuling partRuling ofSize
   rules =
       rw (eq-eqb _ _ (c .sized .bytes-lent), eq-eqb _ _ (c .sized .words-lent), c .awaited .0 .fit, ap (isHeld (store .state)) (c .awaited .0 .name) ∙ c .free, no-overlap, no-wrong-end _ (c .known))
@@ -151,7 +152,7 @@ module _ (d : Datagram) (end : ℕ) (store : Store) (frame : List ℕ) (todo : L
     came = rw (rules, c .awaited .0 .name)
 
     -- what it does to the store
-    effect : Effect (Ruling.Store (piece frame) (endWith (piece frame) (knownEnd (store .state)))) frame (store .bytes) (store .words) (call .bytes) (call .words)
+    effect : Effect (Ruling.Write (piece frame) (endWith (piece frame) (knownEnd (store .state)))) frame (store .bytes) (store .words) (call .bytes) (call .words)
     effect = subst (λ (r : Ruling). Effect r frame (store .bytes) (store .words) (call .bytes) (call .words)) rules (t .store)
 
     -- the bits, one by one
@@ -252,7 +253,7 @@ module _ (d : Datagram) (end : ℕ) (store : Store) (frame : List ℕ) (todo : L
         within b there (other out e) = c .before-end b (sym e ∙ there)
 
     -- where no fragment is left, the datagram is complete
-    pub complete-now : lasts todo ≡ 0 → ((place : ℕ) → Some (Covers place) todo → ⊥) → (paper (call .taken .answer) ≡ complete) × (call .taken .state ≡ Complete d end)
+    pub complete-now : lasts todo ≡ 0 → ((place : ℕ) → Some (Covers place) todo → ⊥) → (saidFor (call .taken .answer) ≡ complete) × (call .taken .state ≡ Complete d end)
     complete-now none nowhere =
         let all = complete-at-last d end (thereWith store frame) todo _ (next-end end frame todo _ (c .known)) none there in
         let done = came ∙ all in
@@ -266,7 +267,7 @@ module _ (d : Datagram) (end : ℕ) (store : Store) (frame : List ℕ) (todo : L
             go (inr left) = absurd (nowhere (b * 8) left)
 
     -- where one is, it is not, and the rest can come
-    pub stored-now : (g : List ℕ) → Awaited d end (store .words) g → Apart frame g → (paper (call .taken .answer) ≡ stored) × Coming d end (after call) todo
+    pub stored-now : (g : List ℕ) → Awaited d end (store .words) g → Apart frame g → (saidFor (call .taken .answer) ≡ stored) × Coming d end (after call) todo
     unfolding blocksOf
     stored-now g w apart =
         let some = part-fits g (piece g) (w .fit) .not-empty in

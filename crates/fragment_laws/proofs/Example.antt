@@ -8,9 +8,9 @@ use native.Mathlib.Omega.{arith}
 use borrow.Author.Tests.{ltb-true, ltb-false}
 use lib.Dec.{ltb}
 use Rattle.sums.specs.Rfc1071.{words, sum, total, fold}
-use Rattle.fragments.specs.Rfc791.{soundHeader, sound, isWhole, payloadLength, goodLength, datagramOf, fragmentOf, packetOf}
+use Rattle.packets.specs.Packets.{soundHeader, sound, isWhole, payloadLength, goodLength, datagramOf, fragmentOf, packetOf}
 use Rattle.wire.specs.Rfc791.{moreFragments, fragmentOffset}
-use Rattle.fragments.specs.declared.answer.Datagram.{Datagram}
+use Rattle.packets.specs.declared.packet.Datagram.{Datagram}
 use Rattle.fragment_laws.specs.Trains.{Some, Covers, Train}
 
 -- 1 to 8 at 0, more fragments to come

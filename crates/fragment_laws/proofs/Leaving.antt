@@ -7,14 +7,14 @@ use native.Mathlib.Omega.{arith}
 use lib.Dec.{eqb}
 use lib.ListN.{length}
 use Rattle.bitmap.specs.Bitmap.{bit, count}
-use Rattle.fragments.specs.Answer.{stored, complete, refused, paper}
+use Rattle.fragments.specs.Answer.{stored, complete, refused, saidFor}
 use Rattle.fragments.specs.Promises.{Untouched, Effect, Takes}
 use Rattle.fragments.specs.Rules.{Outcome, blocksOf, settled, ruling, outcomeOf}
-use Rattle.fragments.specs.declared.answer.Datagram.{Datagram}
+use Rattle.packets.specs.declared.packet.Datagram.{Datagram}
 use Rattle.fragments.specs.declared.answer.End.{End}
 use Rattle.fragments.specs.declared.answer.End.the-variants.{Unknown, At}
 use Rattle.fragments.specs.declared.answer.State.the-variants.{Filling, Complete}
-use Rattle.fragments.specs.declared.packet.Fragment.{Fragment}
+use Rattle.packets.specs.declared.packet.Fragment.{Fragment}
 use Rattle.fragments.specs.declared.ruling.Ruling.{Ruling}
 use Rattle.fragments.specs.declared.ruling.Ruling.the-variants as Ruling
 use Rattle.fragments.proofs.Ruled as Ruled
@@ -31,7 +31,7 @@ module _ (store : Store) (frame : List ℕ) (call : Call) (asked : call .asked �
   ruled = ruling (store .state) frame (length (store .bytes)) (store .words)
 
   -- no other ruling than to store changes anything
-  pub leaves-alone : ((f : Fragment) (end : End) → ruled ≡ Ruling.Store f end → ⊥) → after call ≡ store
+  pub leaves-alone : ((f : Fragment) (end : End) → ruled ≡ Ruling.Write f end → ⊥) → after call ≡ store
   unfolding outcomeOf
   leaves-alone never =
       let t = takes store frame call asked k in
@@ -43,21 +43,21 @@ module _ (store : Store) (frame : List ℕ) (call : Call) (asked : call .asked �
           → (outcomeOf (store .state) (bit (store .words)) r .state ≡ store .state) × Untouched (store .bytes) (store .words) (call .bytes) (call .words)
       go (Ruling.Refuse answer) e u = (refl, u)
       go Ruling.Pass e u = (refl, u)
-      go (Ruling.Store f end) e u = absurd (never f end e)
+      go (Ruling.Write f end) e u = absurd (never f end e)
 
   -- a frame that is no fit fragment
   pub passes-by : PassesBy frame → after call ≡ store
   passes-by by = leaves-alone (λ f end e. by f (Ruled.stored (store .state) frame (length (store .bytes)) (store .words) f end e .1 .is-part))
 
   -- "Refusals, .. each leaving the store unchanged"
-  pub refusal-leaves : (n : ℕ) → paper (call .taken .answer) ≡ refused n → after call ≡ store
+  pub refusal-leaves : (n : ℕ) → saidFor (call .taken .answer) ≡ refused n → after call ≡ store
   unfolding outcomeOf settled
-  refusal-leaves n said = leaves-alone (λ f end e. go f end (sym (subst (λ (r : Ruling). paper (call .taken .answer) ≡ outcomeOf (store .state) (bit (store .words)) r .said) e (takes store frame call asked k .answers)) ∙ said))
+  refusal-leaves n said = leaves-alone (λ f end e. go f end (sym (subst (λ (r : Ruling). saidFor (call .taken .answer) ≡ outcomeOf (store .state) (bit (store .words)) r .said) e (takes store frame call asked k .answers)) ∙ said))
     where
       told : (t : Bool) (d : Datagram) (end : ℕ) → (cond {A = Outcome} t (record { said = complete; state = Complete d end }) (record { said = stored; state = Filling d (At end) })) .said ≡ refused n → ⊥
       told true d end e = let z : _≡_ {A = ℕ} 0 1 = cc in omega arith
       told false d end e = let z : _≡_ {A = ℕ} 0 1 = cc in omega arith
 
-      go : (f : Fragment) (end : End) → outcomeOf (store .state) (bit (store .words)) (Ruling.Store f end) .said ≡ refused n → ⊥
+      go : (f : Fragment) (end : End) → outcomeOf (store .state) (bit (store .words)) (Ruling.Write f end) .said ≡ refused n → ⊥
       go f Unknown e = let z : _≡_ {A = ℕ} 0 1 = cc in omega arith
       go f (At end) e = told (eqb (count _ 0 (blocksOf end)) (blocksOf end)) (f .datagram) end e

@@ -1,4 +1,4 @@
--- The contracts leave one answer: the same asked of the same store gets the same. `paper` is one-to-one, and words of 64 bits are told by their bits.
+-- The contracts leave one answer: the same asked of the same store gets the same. `saidFor` is one-to-one, and words of 64 bits are told by their bits.
 use Prim.Native.Nat.{ℕ, zero, suc, _+_, _*_, _/_, _%_, _^_, _<_}
 use mathlib.Core.Path.{_≡_, refl, ap, sym, _∙_}
 use mathlib.Core.List.{List}
@@ -10,7 +10,7 @@ use lib.Pow.{shr-shr}
 use lib.Seq.{ext-getD}
 use Rattle.bitmap.specs.Bitmap.{bit}
 use mathlib.Core.Bool.{cond}
-use Rattle.fragments.specs.Answer.{Said, passed, stored, complete, released, refused, paper}
+use Rattle.fragments.specs.Answer.{Said, passed, stored, complete, released, refused, saidFor}
 use Rattle.fragments.specs.Promises.{Effect}
 use Rattle.fragments.specs.Rules.{ruling}
 use Rattle.fragments.specs.declared.answer.Answer.{Answer}
@@ -29,8 +29,8 @@ answerOf released = Released
 answerOf (refused n) = cond (eqb n 10) Unfit (cond (eqb n 11) Held (cond (eqb n 12) Overlap WrongEnd))
 
 -- it gives the answer back
-answer-back : (a : Answer) → answerOf (paper a) ≡ a
-unfolding paper answerOf
+answer-back : (a : Answer) → answerOf (saidFor a) ≡ a
+unfolding saidFor answerOf
 answer-back Passed = refl
 answer-back Stored = refl
 answer-back Complete = refl
@@ -41,8 +41,8 @@ answer-back Overlap = refl
 answer-back WrongEnd = refl
 
 -- different answers are said differently
-pub paper-one-to-one : (a b : Answer) → paper a ≡ paper b → a ≡ b
-paper-one-to-one a b e = sym (answer-back a) ∙ ap answerOf e ∙ answer-back b
+pub saidFor-one-to-one : (a b : Answer) → saidFor a ≡ saidFor b → a ≡ b
+saidFor-one-to-one a b e = sym (answer-back a) ∙ ap answerOf e ∙ answer-back b
 
 -- a number of `k` bits is told by them
 same-digits : (k x y : ℕ) → x < 2 ^ k → y < 2 ^ k → ((j : ℕ) → j < k → x / 2 ^ j % 2 ≡ y / 2 ^ j % 2) → x ≡ y
@@ -68,19 +68,19 @@ one-effect : (r : Ruling) (frame bytes words bytes₁ words₁ bytes₂ words₂
     → Words64 words₁ → Words64 words₂ → (bytes₁ ≡ bytes₂) × (words₁ ≡ words₂)
 one-effect (Ruling.Refuse a) frame bytes words bytes₁ words₁ bytes₂ words₂ e f small small′ = (e .kept-bytes ∙ sym (f .kept-bytes), e .kept-bits ∙ sym (f .kept-bits))
 one-effect Ruling.Pass frame bytes words bytes₁ words₁ bytes₂ words₂ e f small small′ = (e .kept-bytes ∙ sym (f .kept-bytes), e .kept-bits ∙ sym (f .kept-bits))
-one-effect (Ruling.Store p end) frame bytes words bytes₁ words₁ bytes₂ words₂ e f small small′ =
+one-effect (Ruling.Write p end) frame bytes words bytes₁ words₁ bytes₂ words₂ e f small small′ =
     (e .0 ∙ sym (f .0), same-words words₁ words₂ (e .1 .words ∙ sym (f .1 .words)) small small′ (λ b. e .1 .bits b ∙ sym (f .1 .bits b)))
 
 -- so the same asked of the same store gets the same answer, and leaves the same store
 pub one-answer : (asked : Asked) (before after after′ : Store) (taken taken′ : Taken) → Keeps asked before after taken → Keeps asked before after′ taken′
     → (taken ≡ taken′) × (after .bytes ≡ after′ .bytes) × (after .words ≡ after′ .words)
 one-answer (taking frame) before after after′ taken taken′ k l =
-    let answer = paper-one-to-one _ _ (k .0 .answers ∙ sym (l .0 .answers)) in
+    let answer = saidFor-one-to-one _ _ (k .0 .answers ∙ sym (l .0 .answers)) in
     let state = k .0 .next ∙ sym (l .0 .next) in
     let r = ruling (before .state) frame (length (before .bytes)) (before .words) in
     let store = one-effect r frame (before .bytes) (before .words) (after .bytes) (after .words) (after′ .bytes) (after′ .words) (k .0 .store) (l .0 .store) (k .1) (l .1) in
     (λ i. record { answer = answer i; state = state i }, store .0, store .1)
 one-answer releasing before after after′ taken taken′ k l =
-    let answer = paper-one-to-one _ _ (k .0 .answers ∙ sym (l .0 .answers)) in
+    let answer = saidFor-one-to-one _ _ (k .0 .answers ∙ sym (l .0 .answers)) in
     let state = k .0 .next ∙ sym (l .0 .next) in
     (λ i. record { answer = answer i; state = state i }, k .1 ∙ sym (l .1), k .0 .bits ∙ sym (l .0 .bits))

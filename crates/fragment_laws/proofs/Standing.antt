@@ -8,17 +8,17 @@ use native.Mathlib.Omega.{arith}
 use borrow.Author.Tests.{eq-eqb}
 use lib.ListN.{length, getD, drop, replicate, length-replicate}
 use Rattle.bitmap.specs.Bitmap.{bit}
-use Rattle.fragments.specs.Answer.{complete, released, paper}
+use Rattle.fragments.specs.Answer.{complete, released, saidFor}
 use Rattle.fragments.specs.Promises.{storedPayload, payloadOf}
 use Rattle.fragments.specs.Rules.{ofSize, isHeld, partRuling, packetRuling, ruling, outcomeOf}
 use Rattle.fragments.specs.declared.answer.Answer.{Answer}
 use Rattle.fragments.specs.declared.answer.Answer.the-variants as Answer
-use Rattle.fragments.specs.declared.answer.Datagram.{Datagram}
+use Rattle.packets.specs.declared.packet.Datagram.{Datagram}
 use Rattle.fragments.specs.declared.answer.State.{State}
 use Rattle.fragments.specs.declared.answer.State.the-variants.{Complete}
 use Rattle.fragment_laws.specs.Calls.{Store, Sized, Vacant, taking, releasing, Call, after, Keeps, Runs, asks}
 use Rattle.fragment_laws.specs.Trains.{All, takings, Stands}
-use Rattle.fragment_laws.proofs.OneAnswer.{paper-one-to-one}
+use Rattle.fragment_laws.proofs.OneAnswer.{saidFor-one-to-one}
 use Rattle.fragments.proofs.Ruled.{stored}
 use Rattle.fragment_laws.proofs.Leaving.{takes, leaves-alone}
 
@@ -26,7 +26,7 @@ module _ (d : Datagram) (n : ℕ) where
   -- one call: a complete store is held
   stands-once : (store : Store) (frame : List ℕ) (call : Call) → store .state ≡ Complete d n → call .asked ≡ taking frame
       → Keeps (call .asked) store (after call) (call .taken) → Stands store call
-  unfolding ruling packetRuling partRuling ofSize isHeld outcomeOf paper
+  unfolding ruling packetRuling partRuling ofSize isHeld outcomeOf saidFor
   stands-once store frame call held asked k =
       record {
         as-it-was =
@@ -47,9 +47,9 @@ module _ (d : Datagram) (n : ℕ) where
       (now, complete-stands store frames calls held (subst (λ (s : Store). Runs s calls) (now .as-it-was) (r .1)) (ap (drop 1) e))
 
 -- the payload that is handed out on complete is the stored one
-pub handed-out : (a : Answer) (s : State) (frame bytes : List ℕ) → paper a ≡ complete → payloadOf a s frame bytes ≡ storedPayload bytes s
-unfolding paper payloadOf
-handed-out a s frame bytes e = ap (λ (x : Answer). payloadOf x s frame bytes) (paper-one-to-one a Answer.Complete e)
+pub handed-out : (a : Answer) (s : State) (frame bytes : List ℕ) → saidFor a ≡ complete → payloadOf a s frame bytes ≡ storedPayload bytes s
+unfolding saidFor payloadOf
+handed-out a s frame bytes e = ap (λ (x : Answer). payloadOf x s frame bytes) (saidFor-one-to-one a Answer.Complete e)
 
 -- words of zeros
 zeros : (n i : ℕ) → _≡_ {A = ℕ} (getD (replicate n 0) i 0) 0
@@ -63,7 +63,7 @@ unfolding bit
 no-bit n b = rw (zeros n (b / 64), zero-div (2 ^ (b % 64)))
 
 -- a release empties a store
-pub released-is-vacant : (store : Store) (call : Call) → Sized store → Keeps releasing store (after call) (call .taken) → (paper (call .taken .answer) ≡ released) × Vacant (after call)
+pub released-is-vacant : (store : Store) (call : Call) → Sized store → Keeps releasing store (after call) (call .taken) → (saidFor (call .taken .answer) ≡ released) × Vacant (after call)
 unfolding ofSize
 released-is-vacant store call sized k =
     let of-size : ofSize (length (store .bytes)) (length (store .words)) ≡ true = rw (eq-eqb _ _ (sized .bytes-lent), eq-eqb _ _ (sized .words-lent)) in

@@ -9,14 +9,14 @@ use mathlib.Core.Path.{_≡_}
 use mathlib.Core.List.{List, [], _∷_}
 use lib.ListN.{length, getD}
 use Rattle.wire.specs.Rfc894.{body}
-use Rattle.fragments.specs.Answer.{stored, complete, refused, paper}
+use Rattle.fragments.specs.Answer.{stored, complete, refused, saidFor}
 use Rattle.fragments.specs.Promises.{storedPayload}
-use Rattle.fragments.specs.Rfc791.{packetOf, fragmentOf}
-use Rattle.fragments.specs.Rules.{endOf}
-use Rattle.fragments.specs.declared.answer.Datagram.{Datagram}
+use Rattle.packets.specs.Packets.{packetOf, fragmentOf}
+use Rattle.packets.specs.Packets.{endOf}
+use Rattle.packets.specs.declared.packet.Datagram.{Datagram}
 use Rattle.fragments.specs.declared.answer.State.the-variants.{Complete}
-use Rattle.fragments.specs.declared.packet.Fragment.{Fragment}
-use Rattle.fragments.specs.declared.packet.Packet.the-variants.{Part}
+use Rattle.packets.specs.declared.packet.Fragment.{Fragment}
+use Rattle.packets.specs.declared.packet.Packet.the-variants.{Part}
 use Rattle.fragment_laws.specs.Calls.{Store, Sized, Vacant, Call, Asked, taking, after, Runs, asks, leaves}
 
 -- one list is the other in another order
@@ -81,8 +81,8 @@ takings (frame ∷ frames) = taking frame ∷ takings frames
 -- "the last call answers complete and the earlier ones stored"
 abbrev pub StoredThenComplete : List Call → Type 0
 StoredThenComplete [] = ⊥
-StoredThenComplete (call ∷ []) = paper (call .taken .answer) ≡ complete
-StoredThenComplete (call ∷ next ∷ rest) = (paper (call .taken .answer) ≡ stored) × StoredThenComplete (next ∷ rest)
+StoredThenComplete (call ∷ []) = saidFor (call .taken .answer) ≡ complete
+StoredThenComplete (call ∷ next ∷ rest) = (saidFor (call .taken .answer) ≡ stored) × StoredThenComplete (next ∷ rest)
 
 -- a frame that is no fit fragment, of this or another datagram: it passes or gets 10
 abbrev pub PassesBy : (frame : List ℕ) → Type 0
@@ -104,7 +104,7 @@ pub record Arrived (datagram : Datagram) (end : ℕ) (frames : List (List ℕ)) 
 -- A complete store stands: a call leaves it as it was, and a fit fragment gets 11.
 pub record Stands (store : Store) (call : Call) : Type 0 where
   pub as-it-was : after call ≡ store
-  pub gets-11 : Sized store → (frame : List ℕ) → call .asked ≡ taking frame → Fit frame → paper (call .taken .answer) ≡ refused 11
+  pub gets-11 : Sized store → (frame : List ℕ) → call .asked ≡ taking frame → Fit frame → saidFor (call .taken .answer) ≡ refused 11
 
 -- the order theorem's statement
 abbrev pub EveryOrder : Type 0

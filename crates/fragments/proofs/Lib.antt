@@ -1,4 +1,2 @@
-pub mod Fitting
 pub mod Ruled
-pub mod Slices
 pub mod Storing

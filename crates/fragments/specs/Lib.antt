@@ -1,4 +1,3 @@
 pub mod Answer
-pub mod Rfc791
 pub mod Rules
 pub mod Promises

@@ -5,7 +5,7 @@ use mathlib.Core.Path.{_≡_, ap, ap₂, sym, _∙_}
 use lib.ListN.{length}
 use Rattle.bitmap.specs.Bitmap.{bit}
 use mathlib.Core.Bool.{cond}
-use Rattle.fragments.specs.Answer.{paper}
+use Rattle.fragments.specs.Answer.{saidFor}
 use Rattle.fragments.specs.Rules.{ruling}
 use Rattle.fragments.specs.declared.answer.Taken.{Taken}
 use Rattle.host.specs.Reassembly.{Took, Freed}
@@ -16,8 +16,8 @@ use Rattle.store_words.specs.Words.{stateOf, wordsOf}
 -- what is told of one answer
 same-telling : {words words₁ words₂ : List ℕ} {n₁ n₂ : ℕ} {t u : Taken} → t ≡ u → Tells words words₁ t n₁ → Tells words words₂ u n₂ → (n₁ ≡ n₂) × (words₁ ≡ words₂)
 same-telling {words} e s r = (
-  s .numbered ∙ ap (λ (x : Taken). numberOf (paper (x .answer))) e ∙ sym (r .numbered),
-  s .written ∙ ap (λ (x : Taken). cond (changes (paper (x .answer))) (wordsOf (x .state)) words) e ∙ sym (r .written),
+  s .numbered ∙ ap (λ (x : Taken). numberOf (saidFor (x .answer))) e ∙ sym (r .numbered),
+  s .written ∙ ap (λ (x : Taken). cond (changes (saidFor (x .answer))) (wordsOf (x .state)) words) e ∙ sym (r .written),
 )
 
 pub one-taking : (words frame bytes bits words₁ bytes₁ bits₁ place₁ words₂ bytes₂ bits₂ place₂ : List ℕ) (n₁ n₂ : ℕ)

@@ -3,7 +3,7 @@ use mathlib.Core.Path.{_≡_, refl, ap, sym, subst, _∙_}
 use mathlib.Core.List.{List, [], _∷_}
 use Rattle.fragment_laws.specs.Calls.{Store, Asked, taking, releasing, Call, after, Keeps, Runs, leaves, asks}
 use Rattle.fragment_laws.specs.Trains.{StoredThenComplete}
-use Rattle.fragments.specs.Answer.{Said, stored, complete, paper}
+use Rattle.fragments.specs.Answer.{Said, stored, complete, saidFor}
 use Rattle.fragments.specs.declared.answer.Taken.{Taken}
 use Rattle.host_laws.specs.Made.{Lent, storeOf, Made, KeepsIt, Makes, lastLent, asksOf, Told21Then22}
 use Rattle.store_words.specs.Told.{numberOf}
@@ -15,7 +15,7 @@ takenOf (taking frame) lent made k = k .0 .taken
 takenOf releasing lent made k = k .0 .taken
 
 -- the number is its answer's
-pub number-of : (asked : Asked) (lent : Lent) (made : Made) (k : KeepsIt asked lent made) → made .number ≡ numberOf (paper (takenOf asked lent made k .answer))
+pub number-of : (asked : Asked) (lent : Lent) (made : Made) (k : KeepsIt asked lent made) → made .number ≡ numberOf (saidFor (takenOf asked lent made k .answer))
 number-of (taking frame) lent made k = k .0 .tells .numbered
 number-of releasing lent made k = k .0 .tells .numbered
 

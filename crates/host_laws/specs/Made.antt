@@ -6,7 +6,7 @@ use lib.ListN.{length, getD}
 use Rattle.fragment_laws.specs.Calls.{Store, Asked, taking, releasing, Words64}
 use Rattle.fragment_laws.specs.Trains.{All, Covers, byteFor}
 use Rattle.fragments.specs.Promises.{storedPayload}
-use Rattle.fragments.specs.declared.answer.Datagram.{Datagram}
+use Rattle.packets.specs.declared.packet.Datagram.{Datagram}
 use Rattle.fragments.specs.declared.answer.State.the-variants.{Complete}
 use Rattle.host.specs.Reassembly.{Took, Freed}
 use Rattle.store_words.specs.Words.{stateOf}

@@ -5,7 +5,7 @@ use mathlib.Core.Path.{_≡_, refl, ap, sym, _∙_}
 use lib.Dec.{eqb}
 use Rattle.bitmap.specs.Bitmap.{bit}
 use mathlib.Core.Bool.{cond}
-use Rattle.fragments.specs.Answer.{paper}
+use Rattle.fragments.specs.Answer.{saidFor}
 use Rattle.fragments.specs.Promises.{Effect, Does, Releases}
 use Rattle.fragments.specs.declared.answer.Answer.{Answer}
 use Rattle.fragments.specs.declared.answer.Answer.the-variants.{Passed, Stored, Complete, Released, Unfit, Held, Overlap, WrongEnd}
@@ -26,8 +26,8 @@ answerOf n =
     (cond (eqb n 11) Held
     (cond (eqb n 12) Overlap WrongEnd))))))
 
-answer-back : (a : Answer) → answerOf (numberOf (paper a)) ≡ a
-unfolding answerOf numberOf paper
+answer-back : (a : Answer) → answerOf (numberOf (saidFor a)) ≡ a
+unfolding answerOf numberOf saidFor
 answer-back Passed = refl
 answer-back Stored = refl
 answer-back Complete = refl
@@ -37,11 +37,11 @@ answer-back Held = refl
 answer-back Overlap = refl
 answer-back WrongEnd = refl
 
-pub numbers-one-to-one : (a b : Answer) → numberOf (paper a) ≡ numberOf (paper b) → a ≡ b
+pub numbers-one-to-one : (a b : Answer) → numberOf (saidFor a) ≡ numberOf (saidFor b) → a ≡ b
 numbers-one-to-one a b e = sym (answer-back a) ∙ ap answerOf e ∙ answer-back b
 
 -- so the same said and the same state are one answer
-same-taken : (t u : Taken) → paper (t .answer) ≡ paper (u .answer) → t .state ≡ u .state → t ≡ u
+same-taken : (t u : Taken) → saidFor (t .answer) ≡ saidFor (u .answer) → t .state ≡ u .state → t ≡ u
 same-taken t u said state =
     let answer = numbers-one-to-one (t .answer) (u .answer) (ap numberOf said) in
     λ i. record { answer = answer i; state = state i }
@@ -60,4 +60,4 @@ one-effect (Ruling.Refuse a) frame bytes words bytes₁ words₁ bytes₂ words�
     (e .kept-bytes ∙ sym (f .kept-bytes), λ b. ap (λ (w : List ℕ). bit w b) (e .kept-bits ∙ sym (f .kept-bits)))
 one-effect Ruling.Pass frame bytes words bytes₁ words₁ bytes₂ words₂ e f =
     (e .kept-bytes ∙ sym (f .kept-bytes), λ b. ap (λ (w : List ℕ). bit w b) (e .kept-bits ∙ sym (f .kept-bits)))
-one-effect (Ruling.Store p end) frame bytes words bytes₁ words₁ bytes₂ words₂ e f = (e .0 ∙ sym (f .0), λ b. e .1 .bits b ∙ sym (f .1 .bits b))
+one-effect (Ruling.Write p end) frame bytes words bytes₁ words₁ bytes₂ words₂ e f = (e .0 ∙ sym (f .0), λ b. e .1 .bits b ∙ sym (f .1 .bits b))

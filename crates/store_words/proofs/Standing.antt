@@ -10,24 +10,24 @@ use Rattle.bitmap.specs.Bitmap.{bit, count}
 use Rattle.base.specs.Bytes.{part}
 use Rattle.wire.specs.Rfc791.{headerLength}
 use Rattle.wire.specs.Rfc894.{body}
-use Rattle.fragments.specs.Answer.{Said, passed, stored, complete, released, refused, paper}
+use Rattle.fragments.specs.Answer.{Said, passed, stored, complete, released, refused, saidFor}
 use Rattle.fragments.specs.Promises.{Untouched, Does, Takes, Releases, payloadOf, wholePayload, storedPayload}
-use Rattle.fragments.specs.Rfc791.{sound, isWhole, goodLength, packetOf, payloadLength, fragmentOf}
+use Rattle.packets.specs.Packets.{sound, isWhole, goodLength, packetOf, payloadLength, fragmentOf}
 use Rattle.wire.specs.Rfc791.{moreFragments, fragmentOffset}
 use Rattle.fragments.specs.Rules.{Outcome, blocksOf, ofSize, isHeld, overlaps, wrongEnd, knownEnd, endWith, ruling, packetRuling, partRuling, outcomeOf, settled}
 use Rattle.fragments.specs.declared.answer.Answer.{Answer}
 use Rattle.fragments.specs.declared.answer.Answer.the-variants as Answer
-use Rattle.fragments.specs.declared.answer.Datagram.{Datagram}
+use Rattle.packets.specs.declared.packet.Datagram.{Datagram}
 use Rattle.fragments.specs.declared.answer.End.{End}
 use Rattle.fragments.specs.declared.answer.End.the-variants.{Unknown, At}
 use Rattle.fragments.specs.declared.answer.State.{State}
 use Rattle.fragments.specs.declared.answer.State.the-variants.{Empty, Filling, Complete}
 use Rattle.fragments.specs.declared.answer.Taken.{Taken}
-use Rattle.fragments.specs.declared.packet.Fragment.{Fragment}
-use Rattle.fragments.specs.declared.packet.Packet.{Packet}
-use Rattle.fragments.specs.declared.packet.Packet.the-variants.{Unfit, Whole, Part}
+use Rattle.packets.specs.declared.packet.Fragment.{Fragment}
+use Rattle.packets.specs.declared.packet.Packet.{Packet}
+use Rattle.packets.specs.declared.packet.Packet.the-variants.{Unfit, Whole, Part}
 use Rattle.fragments.specs.declared.ruling.Ruling.{Ruling}
-use Rattle.fragments.specs.declared.ruling.Ruling.the-variants.{Refuse, Pass, Store}
+use Rattle.fragments.specs.declared.ruling.Ruling.the-variants.{Refuse, Pass, Write}
 use Rattle.store_words.specs.Told.{numberOf, changes, placeOf, storedPlace, placedIn}
 
 either : (b : Bool) (after before : State) → after ≡ before → cond b after before ≡ after
@@ -64,26 +64,26 @@ settled-changes d (At end) there = either (eqb (count there 0 (blocksOf end)) (b
 
 -- what is done to a store without a new state leaves the state
 pub read-as : (r : Ruling) (state : State) (frame bytes words bytes′ words′ : List ℕ) (taken : Taken) → Does r state frame bytes words bytes′ words′ taken
-    → cond (changes (paper (taken .answer))) (taken .state) state ≡ taken .state
+    → cond (changes (saidFor (taken .answer))) (taken .state) state ≡ taken .state
 unfolding outcomeOf
-read-as (Refuse answer) state frame bytes words bytes′ words′ taken d = either (changes (paper (taken .answer))) (taken .state) state (d .next)
-read-as Pass state frame bytes words bytes′ words′ taken d = either (changes (paper (taken .answer))) (taken .state) state (d .next)
-read-as (Store f end) state frame bytes words bytes′ words′ taken d = simp (ap changes (d .answers) ∙ settled-changes (f .datagram) end _ .0)
+read-as (Refuse answer) state frame bytes words bytes′ words′ taken d = either (changes (saidFor (taken .answer))) (taken .state) state (d .next)
+read-as Pass state frame bytes words bytes′ words′ taken d = either (changes (saidFor (taken .answer))) (taken .state) state (d .next)
+read-as (Write f end) state frame bytes words bytes′ words′ taken d = simp (ap changes (d .answers) ∙ settled-changes (f .datagram) end _ .0)
 
 -- and leaves its bytes and bits
 pub leaves-alone : (r : Ruling) (state : State) (frame bytes words bytes′ words′ : List ℕ) (taken : Taken) → Does r state frame bytes words bytes′ words′ taken
-    → changes (paper (taken .answer)) ≡ false → Untouched bytes words bytes′ words′
+    → changes (saidFor (taken .answer)) ≡ false → Untouched bytes words bytes′ words′
 unfolding outcomeOf
 leaves-alone (Refuse answer) state frame bytes words bytes′ words′ taken d e = d .store
 leaves-alone Pass state frame bytes words bytes′ words′ taken d e = d .store
-leaves-alone (Store f end) state frame bytes words bytes′ words′ taken d e =
+leaves-alone (Write f end) state frame bytes words bytes′ words′ taken d e =
     let both : true ≡ false = sym (ap changes (d .answers) ∙ settled-changes (f .datagram) end _ .0) ∙ e in
     let z : _≡_ {A = ℕ} 0 1 = cc in
     absurd (omega arith)
 
 -- the numbers below 21 are those of the answers without a new state
-pub low-number : (a : Answer) → numberOf (paper a) < 21 → changes (paper a) ≡ false
-unfolding numberOf changes paper
+pub low-number : (a : Answer) → numberOf (saidFor a) < 21 → changes (saidFor a) ≡ false
+unfolding numberOf changes saidFor
 low-number Answer.Passed l = refl
 low-number Answer.Stored l = absurd (omega (arith, l))
 low-number Answer.Complete l = absurd (omega (arith, l))
@@ -99,23 +99,23 @@ released-changes = refl
 
 -- nothing but a whole datagram passes
 part-stays : (state : State) (there : ℕ → ℕ) (f : Fragment) → passes (outcomeOf state there (partRuling state there f) .said) ≡ false
-unfolding partRuling outcomeOf passes paper
+unfolding partRuling outcomeOf passes saidFor
 part-stays state there f = tests (isHeld state (f .datagram)) (overlaps f there) (wrongEnd f (knownEnd state) there)
   where
-    tests : (held over wrong : Bool) → passes (outcomeOf state there (cond held (Refuse Answer.Held) (cond over (Refuse Answer.Overlap) (cond wrong (Refuse Answer.WrongEnd) (Store f (endWith f (knownEnd state)))))) .said) ≡ false
+    tests : (held over wrong : Bool) → passes (outcomeOf state there (cond held (Refuse Answer.Held) (cond over (Refuse Answer.Overlap) (cond wrong (Refuse Answer.WrongEnd) (Write f (endWith f (knownEnd state)))))) .said) ≡ false
     tests true over wrong = refl
     tests false true wrong = refl
     tests false false true = refl
     tests false false false = settled-changes (f .datagram) (endWith f (knownEnd state)) _ .1
 
 whole-passes : (state : State) (there : ℕ → ℕ) (p : Packet) → passes (outcomeOf state there (packetRuling state there p) .said) ≡ isWholePacket p
-unfolding packetRuling outcomeOf passes isWholePacket paper
+unfolding packetRuling outcomeOf passes isWholePacket saidFor
 whole-passes state there Unfit = refl
 whole-passes state there (Whole start length) = refl
 whole-passes state there (Part f) = part-stays state there f
 
 passed-whole : (state : State) (frame : List ℕ) (n : ℕ) (words : List ℕ) → outcomeOf state (bit words) (ruling state frame n words) .said ≡ passed → isWholePacket (packetOf frame) ≡ true
-unfolding ruling outcomeOf passes paper
+unfolding ruling outcomeOf passes saidFor
 passed-whole state frame n words e = by-size (not (ofSize n (length words))) (ap passes e)
   where
     by-size : (wrong : Bool) → passes (outcomeOf state (bit words) (cond wrong (Refuse Answer.Unfit) (packetRuling state (bit words) (packetOf frame))) .said) ≡ true
@@ -156,13 +156,13 @@ stored-stands bytes (Complete d n) = within (leb n (length bytes))
 pub payload-stands : (state : State) (frame bytes words bytes′ words′ : List ℕ) (taken : Taken) → Takes state frame bytes words bytes′ words′ taken
     → part (placedIn (taken .answer) frame bytes′) (getD (placeOf (taken .answer) (taken .state) frame (length bytes′)) 0 0) (getD (placeOf (taken .answer) (taken .state) frame (length bytes′)) 1 0)
     ≡ payloadOf (taken .answer) (taken .state) frame bytes′
-unfolding placedIn placeOf payloadOf wholePayload paper
+unfolding placedIn placeOf payloadOf wholePayload saidFor
 payload-stands state frame bytes words bytes′ words′ taken d = by-answer (taken .answer) (taken .state) (d .answers)
   where
     place : Answer → State → List ℕ
     place a s = placeOf a s frame (length bytes′)
 
-    by-answer : (a : Answer) (s : State) → paper a ≡ outcomeOf state (bit words) (ruling state frame (length bytes) words) .said
+    by-answer : (a : Answer) (s : State) → saidFor a ≡ outcomeOf state (bit words) (ruling state frame (length bytes) words) .said
         → part (placedIn a frame bytes′) (getD (place a s) 0 0) (getD (place a s) 1 0) ≡ payloadOf a s frame bytes′
     by-answer Answer.Passed s e = ap (wholePayload frame) (sym (whole-stands frame (passed-whole state frame (length bytes) words (sym e))))
     by-answer Answer.Complete s e = stored-stands bytes′ s
@@ -175,10 +175,10 @@ payload-stands state frame bytes words bytes′ words′ taken d = by-answer (ta
 
 -- and after a release, the state
 pub released-as : (state : State) (bytes words words′ : List ℕ) (taken : Taken) → Releases state bytes words words′ taken
-    → cond (changes (paper (taken .answer))) (taken .state) state ≡ taken .state
+    → cond (changes (saidFor (taken .answer))) (taken .state) state ≡ taken .state
 released-as state bytes words words′ taken r = by-size (ofSize (length bytes) (length words)) (r .answers) (r .next)
   where
-    by-size : (b : Bool) → paper (taken .answer) ≡ cond b released (refused 10) → taken .state ≡ cond b Empty state
-        → cond (changes (paper (taken .answer))) (taken .state) state ≡ taken .state
+    by-size : (b : Bool) → saidFor (taken .answer) ≡ cond b released (refused 10) → taken .state ≡ cond b Empty state
+        → cond (changes (saidFor (taken .answer))) (taken .state) state ≡ taken .state
     by-size true said next = simp (ap changes said ∙ released-changes)
-    by-size false said next = either (changes (paper (taken .answer))) (taken .state) state next
+    by-size false said next = either (changes (saidFor (taken .answer))) (taken .state) state next

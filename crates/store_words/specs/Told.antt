@@ -6,8 +6,8 @@ use mathlib.Core.Path.{_≡_}
 use lib.Dec.{leb}
 use Rattle.wire.specs.Rfc791.{headerLength}
 use Rattle.wire.specs.Rfc894.{body}
-use Rattle.fragments.specs.Answer.{Said, passed, stored, complete, released, refused, paper}
-use Rattle.fragments.specs.Rfc791.{payloadLength}
+use Rattle.fragments.specs.Answer.{Said, passed, stored, complete, released, refused, saidFor}
+use Rattle.packets.specs.Packets.{payloadLength}
 use Rattle.fragments.specs.declared.answer.Answer.{Answer}
 use Rattle.fragments.specs.declared.answer.Answer.the-variants as Answer
 use Rattle.fragments.specs.declared.answer.State.{State}
@@ -33,9 +33,9 @@ changes (refused number) = false
 
 -- The promise of telling what came of a call: its number; the words of the new state, or else the words exactly as they were; and that they are read as it.
 pub record Tells (words words′ : List ℕ) (taken : Taken) (number : ℕ) : Type 0 where
-  pub numbered : number ≡ numberOf (paper (taken .answer))
-  pub written : words′ ≡ cond (changes (paper (taken .answer))) (wordsOf (taken .state)) words
-  pub read : stateOf words′ ≡ cond (changes (paper (taken .answer))) (taken .state) (stateOf words)
+  pub numbered : number ≡ numberOf (saidFor (taken .answer))
+  pub written : words′ ≡ cond (changes (saidFor (taken .answer))) (wordsOf (taken .state)) words
+  pub read : stateOf words′ ≡ cond (changes (saidFor (taken .answer))) (taken .state) (stateOf words)
 
 -- in a complete store the payload is the first bytes; a state that tells more than are lent hands out none
 unfoldable pub storedPlace : (lent : ℕ) → State → List ℕ

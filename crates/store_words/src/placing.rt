@@ -6,7 +6,7 @@ ghost use lib.Dec.{leb};
 ghost use Rattle.wire.specs.Rfc791.{headerLength};
 ghost use Rattle.wire.specs.Rfc894.{body};
 ghost use mathlib.Core.Bool.{cond};
-ghost use Rattle.fragments.specs.Rfc791.{payloadLength};
+ghost use Rattle.packets.specs.Packets.{payloadLength};
 ghost use Rattle.store_words.specs.Told.{placeOf, storedPlace};
 use fragments::Answer;
 use fragments::State;

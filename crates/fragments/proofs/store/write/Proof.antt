@@ -1,4 +1,4 @@
--- `store` meets its contract: copied, marked, and settled by the blocks that are there then.
+-- `write` meets its contract: copied, marked, and settled by the blocks that are there then.
 use Prim.Native.Nat.{ℕ}
 use mathlib.Core.Path.{subst, _∙_}
 use Rattle.bitmap.specs.Bitmap.{Marked}
@@ -6,23 +6,23 @@ use Rattle.fragments.specs.Promises.{Settles}
 use Rattle.fragments.specs.Rules.{firstBlock, stopBlock}
 use Rattle.fragments.proofs.Storing.{copied, marked}
 use borrow.Author.Needs.{needs}
-use Rattle.fragments.proofs.store.store.Statement.{statement}
-use Rattle.fragments.proofs.store.store.Tie as tie
+use Rattle.fragments.proofs.store.write.Statement.{statement}
+use Rattle.fragments.proofs.store.write.Tie as tie
 
 returns : tie.Need-returns
 returns c =
     let start = c .before .before .before .before .before .before .before .before .before .before .before .before .before .before .before .before .before .before in
     let a = start .args in
     let f = a .fragment in
-    let words′ = c .before .before .before .before .mark .last .0 in
-    let marks : Marked (firstBlock f) (stopBlock f) (a .bits .now) words′ =
-    subst (λ (stop : ℕ). Marked (firstBlock f) stop (a .bits .now) words′) (c .before .before .before .before .before .blocks-of .ensures) (c .before .before .before .before .mark .ensures) in (
-      subst (λ (there : ℕ → ℕ). Settles (f .datagram) (a .end) there (c .settle .result)) (marked f (a .bits .now) words′ (start .pre .1 .0) (start .pre .1 .1 .1) marks) (c .settle .ensures),
+    let bits′ = c .before .before .before .before .mark .last .0 in
+    let marks : Marked (firstBlock f) (stopBlock f) (a .bits .now) bits′ =
+    subst (λ (stop : ℕ). Marked (firstBlock f) stop (a .bits .now) bits′) (c .before .before .before .before .before .blocks-of .ensures) (c .before .before .before .before .mark .ensures) in (
+      subst (λ (there : ℕ → ℕ). Settles (f .datagram) (a .end) there (c .settle .result)) (marked f (a .bits .now) bits′ (start .pre .1 .0) (start .pre .1 .1 .1) marks) (c .settle .ensures),
       (c .before .before .before .before .before .before .before .before .before .before .before .put .ensures ∙ copied f (a .frame .now) (a .bytes .now) (start .pre .0) (start .pre .1 .0) (start .pre .1 .1 .0), marks),
     )
 
-pub store-spec : {M : Type 1} → statement M
-store-spec =
+pub write-spec : {M : Type 1} → statement M
+write-spec =
     tie.close
     (tie.spec (λ c. search needs) (λ c. search needs) (λ c. search needs) (λ c. search needs)
     (λ c κs. search needs) (λ c. search needs) (λ c κs. search needs) (λ c κs. search needs)
