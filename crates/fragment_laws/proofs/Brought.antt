@@ -47,10 +47,10 @@ some-map P Q f (x ∷ xs) (inl h) = inl (f x h)
 some-map P Q f (x ∷ xs) (inr s) = inr (some-map P Q f xs s)
 
 -- a frame more can have come
-one-more : (s : State) (bytes words frame : List ℕ) (came : List (List ℕ)) → Means s bytes words came → Means s bytes words (frame ∷ came)
-one-more Empty bytes words frame came m = m
-one-more (Filling d end) bytes words frame came m = λ place there h. inr (m place there h)
-one-more (Complete d n) bytes words frame came m = (λ place there h. inr (m .0 place there h), m .1)
+one-more : (s : State) (bytes bits frame : List ℕ) (came : List (List ℕ)) → Means s bytes bits came → Means s bytes bits (frame ∷ came)
+one-more Empty bytes bits frame came m = m
+one-more (Filling d end) bytes bits frame came m = λ place there h. inr (m place there h)
+one-more (Complete d n) bytes bits frame came m = (λ place there h. inr (m .0 place there h), m .1)
 
 -- equal in its four fields, equal as a name
 same-name : (d e : Datagram) → sameDatagram d e ≡ true → d ≡ e
@@ -62,11 +62,11 @@ same-name d e h =
     λ i. record { source = eqb-true (d .source) (e .source) (a .0) i; target = eqb-true (d .target) (e .target) (b .0) i; protocol = eqb-true (d .protocol) (e .protocol) (c .0) i; id = eqb-true (d .id) (e .id) (c .1) i }
 
 -- what is known of the datagram at hand before a fragment of it is stored
-before : (s : State) (d : Datagram) (bytes words : List ℕ) (came : List (List ℕ)) → isHeld s d ≡ false → Means s bytes words came → Knows d (knownEnd s) bytes words came
+before : (s : State) (d : Datagram) (bytes bits : List ℕ) (came : List (List ℕ)) → isHeld s d ≡ false → Means s bytes bits came → Knows d (knownEnd s) bytes bits came
 unfolding isHeld knownEnd
-before Empty d bytes words came free m = λ place there h. absurd (omega (arith, m (place / 8)))
-before (Filling held end) d bytes words came free m = subst (λ (x : Datagram). Knows x end bytes words came) (same-name held d (not-false _ free)) m
-before (Complete held n) d bytes words came free m = let z : _≡_ {A = ℕ} 0 1 = cc in absurd (omega arith)
+before Empty d bytes bits came free m = λ place there h. absurd (omega (arith, m (place / 8)))
+before (Filling held end) d bytes bits came free m = subst (λ (x : Datagram). Knows x end bytes bits came) (same-name held d (not-false _ free)) m
+before (Complete held n) d bytes bits came free m = let z : _≡_ {A = ℕ} 0 1 = cc in absurd (omega arith)
 
 -- a stored fragment brings its own places up to the end, and what was known stays
 covers : (frame : List ℕ) → Fit frame → (k : End) (place : ℕ) (t : Bool) → piece frame .last ≡ t
@@ -85,7 +85,7 @@ earlier f there (At n) place false e right h = h
 -- a fragment is stored
 module _ (store : Store) (sized : Sized store) (frame : List ℕ) (call : Call) (fit : Fit frame)
     (wrote : call .bytes ≡ put (piece frame .offset) (part frame (piece frame .start) (piece frame .length)) (store .bytes))
-    (bits : (b : ℕ) → bit (call .words) b ≡ having (bit (store .words)) (firstBlock (piece frame)) (stopBlock (piece frame)) b) where
+    (each-bit : (b : ℕ) → bit (call .bits) b ≡ having (bit (store .bits)) (firstBlock (piece frame)) (stopBlock (piece frame)) b) where
   -- its payload is as long as its header says, and fits
   payload-long : length (part frame (piece frame .start) (piece frame .length)) ≡ piece frame .length
   payload-long = length-take-le _ _ (omega (arith, length-drop (piece frame .start) frame, part-fits frame (piece frame) fit .in-frame))
@@ -102,12 +102,12 @@ module _ (store : Store) (sized : Sized store) (frame : List ℕ) (call : Call) 
       ∙ getD-drop (piece frame .start) frame (place - piece frame .offset) 0
 
   -- what is known then
-  next : (k : End) (came : List (List ℕ)) → wrongEnd (piece frame) k (bit (store .words)) ≡ false → Knows (piece frame .datagram) k (store .bytes) (store .words) came
-      → Knows (piece frame .datagram) (endWith (piece frame) k) (call .bytes) (call .words) (frame ∷ came)
+  next : (k : End) (came : List (List ℕ)) → wrongEnd (piece frame) k (bit (store .bits)) ≡ false → Knows (piece frame .datagram) k (store .bytes) (store .bits) came
+      → Knows (piece frame .datagram) (endWith (piece frame) k) (call .bytes) (call .bits) (frame ∷ came)
   unfolding endWith blocksOf
-  next k came right knows place there h = go (block (bit (store .words)) (firstBlock (piece frame)) (stopBlock (piece frame)) (place / 8))
+  next k came right knows place there h = go (block (bit (store .bits)) (firstBlock (piece frame)) (stopBlock (piece frame)) (place / 8))
     where
-      go : Block (bit (store .words)) (firstBlock (piece frame)) (stopBlock (piece frame)) (place / 8) → Some (Brought (piece frame .datagram) (call .bytes) place) (frame ∷ came)
+      go : Block (bit (store .bits)) (firstBlock (piece frame)) (stopBlock (piece frame)) (place / 8) → Some (Brought (piece frame .datagram) (call .bytes) place) (frame ∷ came)
       go (of-it l u e) = let c = covers frame fit k place (piece frame .last) refl h l u in inl (record { fit = fit; of-it = refl; covers = c; byte = brings place c })
       go (other out e) =
           let kept : getD (call .bytes) place 0 ≡ getD (store .bytes) place 0 =
@@ -115,79 +115,79 @@ module _ (store : Store) (sized : Sized store) (frame : List ℕ) (call : Call) 
           ∙ byte-beside (piece frame .offset) _ (store .bytes) fits place (λ l. omega (arith, payload-long, out (omega arith))) in
           inr (some-map (Brought (piece frame .datagram) (store .bytes) place) (Brought (piece frame .datagram) (call .bytes) place)
           (λ g b. record { fit = b .fit; of-it = b .of-it; covers = b .covers; byte = kept ∙ b .byte }) came
-          (knows place (sym e ∙ sym (bits (place / 8)) ∙ there) (earlier (piece frame) (bit (store .words)) k place (piece frame .last) refl right h)))
+          (knows place (sym e ∙ sym (each-bit (place / 8)) ∙ there) (earlier (piece frame) (bit (store .bits)) k place (piece frame .last) refl right h)))
 
 -- what a settled store means
-settles : (d : Datagram) (end : End) (there : ℕ → ℕ) (bytes words : List ℕ) (came : List (List ℕ)) → ((b : ℕ) → bit words b ≡ there b)
-    → Knows d end bytes words came → Means (settled d end there .state) bytes words came
+settles : (d : Datagram) (end : End) (there : ℕ → ℕ) (bytes bits : List ℕ) (came : List (List ℕ)) → ((b : ℕ) → bit bits b ≡ there b)
+    → Knows d end bytes bits came → Means (settled d end there .state) bytes bits came
 unfolding settled blocksOf
-settles d Unknown there bytes words came bits knows = knows
-settles d (At n) there bytes words came bits knows = go (eqb (count there 0 (blocksOf n)) (blocksOf n)) refl
+settles d Unknown there bytes bits came each-bit knows = knows
+settles d (At n) there bytes bits came each-bit knows = go (eqb (count there 0 (blocksOf n)) (blocksOf n)) refl
   where
-    all : count there 0 (blocksOf n) ≡ blocksOf n → (b : ℕ) → b * 8 < n → bit words b ≡ 1
+    all : count there 0 (blocksOf n) ≡ blocksOf n → (b : ℕ) → b * 8 < n → bit bits b ≡ 1
     all same b h =
-        let at-most-1 : (b : ℕ) → there b ≤ 1 = λ b. omega (arith, bits b, bit-at-most-1 words b) in
+        let at-most-1 : (b : ℕ) → there b ≤ 1 = λ b. omega (arith, each-bit b, bit-at-most-1 bits b) in
         let out : there b ≡ 0 → ⊥ = λ absent. omega (arith, count-missing there at-most-1 0 (blocksOf n) b (omega arith) (omega arith) absent) in
-        omega (arith, bits b, bit-at-most-1 words b)
+        omega (arith, each-bit b, bit-at-most-1 bits b)
 
     go : (t : Bool) → eqb (count there 0 (blocksOf n)) (blocksOf n) ≡ t
-        → Means ((cond {A = Outcome} t (record { said = Answer.complete; state = Complete d n }) (record { said = Answer.stored; state = Filling d (At n) })) .state) bytes words came
+        → Means ((cond {A = Outcome} t (record { said = Answer.complete; state = Complete d n }) (record { said = Answer.stored; state = Filling d (At n) })) .state) bytes bits came
     go true e = (knows, all (eqb-true _ _ e))
     go false e = knows
 
 -- one call
 module _ (store : Store) (sized : Sized store) (frame : List ℕ) (call : Call) (came : List (List ℕ))
-    (t : Takes (store .state) frame (store .bytes) (store .words) (call .bytes) (call .words) (call .taken))
-    (m : Means (store .state) (store .bytes) (store .words) came) where
+    (t : Takes (store .state) frame (store .bytes) (store .bits) (call .bytes) (call .bits) (call .taken))
+    (m : Means (store .state) (store .bytes) (store .bits) came) where
   -- a fragment is stored
-  stores : (f : Fragment) (end : End) → Stored (store .state) (bit (store .words)) (packetOf frame) f end
-      → Effect (Ruling.Write f end) frame (store .bytes) (store .words) (call .bytes) (call .words)
-      → Means (settled (f .datagram) end (having (bit (store .words)) (firstBlock f) (stopBlock f)) .state) (call .bytes) (call .words) (frame ∷ came) × Sized (after call)
+  stores : (f : Fragment) (end : End) → Stored (store .state) (bit (store .bits)) (packetOf frame) f end
+      → Effect (Ruling.Write f end) frame (store .bytes) (store .bits) (call .bytes) (call .bits)
+      → Means (settled (f .datagram) end (having (bit (store .bits)) (firstBlock f) (stopBlock f)) .state) (call .bytes) (call .bits) (frame ∷ came) × Sized (after call)
   stores f end fs effect =
       let P : Fragment → Type 0 = λ g.
-      Stored (store .state) (bit (store .words)) (packetOf frame) g end → Effect (Ruling.Write g end) frame (store .bytes) (store .words) (call .bytes) (call .words)
-      → Means (settled (g .datagram) end (having (bit (store .words)) (firstBlock g) (stopBlock g)) .state) (call .bytes) (call .words) (frame ∷ came) × Sized (after call) in
+      Stored (store .state) (bit (store .bits)) (packetOf frame) g end → Effect (Ruling.Write g end) frame (store .bytes) (store .bits) (call .bytes) (call .bits)
+      → Means (settled (g .datagram) end (having (bit (store .bits)) (firstBlock g) (stopBlock g)) .state) (call .bytes) (call .bits) (frame ∷ came) × Sized (after call) in
       subst P (part-is frame f (fs .is-part)) own fs effect
     where
-      own : Stored (store .state) (bit (store .words)) (packetOf frame) (piece frame) end → Effect (Ruling.Write (piece frame) end) frame (store .bytes) (store .words) (call .bytes) (call .words)
-          → Means (settled (piece frame .datagram) end (thereWith store frame) .state) (call .bytes) (call .words) (frame ∷ came) × Sized (after call)
+      own : Stored (store .state) (bit (store .bits)) (packetOf frame) (piece frame) end → Effect (Ruling.Write (piece frame) end) frame (store .bytes) (store .bits) (call .bytes) (call .bits)
+          → Means (settled (piece frame .datagram) end (thereWith store frame) .state) (call .bytes) (call .bits) (frame ∷ came) × Sized (after call)
       own fs effect =
           let fit : Fit frame = fs .is-part in
-          let bits : (b : ℕ) → bit (call .words) b ≡ thereWith store frame b =
-          λ b. ap (λ (there : ℕ → ℕ). there b) (marked (piece frame) (store .words) (call .words) (part-fits frame (piece frame) fit .short) (sized .words-lent) (effect .1)) in
-          let known = before (store .state) (piece frame .datagram) (store .bytes) (store .words) came (fs .free) m in
-          let then = next store sized frame call fit (effect .0) bits (knownEnd (store .state)) came (fs .right-end) known in
-          let ends = subst (λ (k : End). Knows (piece frame .datagram) k (call .bytes) (call .words) (frame ∷ came)) (fs .ends) then in (
-            settles (piece frame .datagram) end (thereWith store frame) (call .bytes) (call .words) (frame ∷ came) bits ends,
+          let each-bit : (b : ℕ) → bit (call .bits) b ≡ thereWith store frame b =
+          λ b. ap (λ (there : ℕ → ℕ). there b) (marked (piece frame) (store .bits) (call .bits) (part-fits frame (piece frame) fit .short) (sized .bits-lent) (effect .1)) in
+          let known = before (store .state) (piece frame .datagram) (store .bytes) (store .bits) came (fs .free) m in
+          let then = next store sized frame call fit (effect .0) each-bit (knownEnd (store .state)) came (fs .right-end) known in
+          let ends = subst (λ (k : End). Knows (piece frame .datagram) k (call .bytes) (call .bits) (frame ∷ came)) (fs .ends) then in (
+            settles (piece frame .datagram) end (thereWith store frame) (call .bytes) (call .bits) (frame ∷ came) each-bit ends,
             record {
-              bytes-lent = ap length (effect .0) ∙ length-put (piece frame .offset) _ (store .bytes) (fits store sized frame call fit (effect .0) bits) ∙ sized .bytes-lent;
-              words-lent = effect .1 .words ∙ sized .words-lent;
+              bytes-lent = ap length (effect .0) ∙ length-put (piece frame .offset) _ (store .bytes) (fits store sized frame call fit (effect .0) each-bit) ∙ sized .bytes-lent;
+              bits-lent = effect .1 .as-long ∙ sized .bits-lent;
             },
           )
 
   -- whatever is done with it
-  goes-on : Means (call .taken .state) (call .bytes) (call .words) (frame ∷ came) × Sized (after call)
+  goes-on : Means (call .taken .state) (call .bytes) (call .bits) (frame ∷ came) × Sized (after call)
   unfolding outcomeOf
   goes-on =
-      let r = go (ruling (store .state) frame (length (store .bytes)) (store .words)) refl (t .store) in
-      (subst (λ (s : State). Means s (call .bytes) (call .words) (frame ∷ came)) (sym (t .next)) (r .0), r .1)
+      let r = go (ruling (store .state) frame (length (store .bytes)) (store .bits)) refl (t .store) in
+      (subst (λ (s : State). Means s (call .bytes) (call .bits) (frame ∷ came)) (sym (t .next)) (r .0), r .1)
     where
-      same : Effect (Ruling.Pass) frame (store .bytes) (store .words) (call .bytes) (call .words) → Means (store .state) (call .bytes) (call .words) (frame ∷ came) × Sized (after call)
+      same : Effect (Ruling.Pass) frame (store .bytes) (store .bits) (call .bytes) (call .bits) → Means (store .state) (call .bytes) (call .bits) (frame ∷ came) × Sized (after call)
       same u = (
-        subst (λ (l : List ℕ). Means (store .state) l (call .words) (frame ∷ came)) (sym (u .kept-bytes))
-            (subst (λ (l : List ℕ). Means (store .state) (store .bytes) l (frame ∷ came)) (sym (u .kept-bits)) (one-more (store .state) (store .bytes) (store .words) frame came m)),
-        record { bytes-lent = ap length (u .kept-bytes) ∙ sized .bytes-lent; words-lent = ap length (u .kept-bits) ∙ sized .words-lent },
+        subst (λ (l : List ℕ). Means (store .state) l (call .bits) (frame ∷ came)) (sym (u .kept-bytes))
+            (subst (λ (l : List ℕ). Means (store .state) (store .bytes) l (frame ∷ came)) (sym (u .kept-bits)) (one-more (store .state) (store .bytes) (store .bits) frame came m)),
+        record { bytes-lent = ap length (u .kept-bytes) ∙ sized .bytes-lent; bits-lent = ap length (u .kept-bits) ∙ sized .bits-lent },
       )
 
-      go : (r : Ruling) → ruling (store .state) frame (length (store .bytes)) (store .words) ≡ r → Effect r frame (store .bytes) (store .words) (call .bytes) (call .words)
-          → Means (outcomeOf (store .state) (bit (store .words)) r .state) (call .bytes) (call .words) (frame ∷ came) × Sized (after call)
+      go : (r : Ruling) → ruling (store .state) frame (length (store .bytes)) (store .bits) ≡ r → Effect r frame (store .bytes) (store .bits) (call .bytes) (call .bits)
+          → Means (outcomeOf (store .state) (bit (store .bits)) r .state) (call .bytes) (call .bits) (frame ∷ came) × Sized (after call)
       go (Ruling.Refuse a) e u = same u
       go Ruling.Pass e u = same u
-      go (Ruling.Write f end) e u = stores f end (stored (store .state) frame (length (store .bytes)) (store .words) f end e .1) u
+      go (Ruling.Write f end) e u = stores f end (stored (store .state) frame (length (store .bytes)) (store .bits) f end e .1) u
 
 -- call by call
-pub means : (frames : List (List ℕ)) (store : Store) (calls : List Call) (came : List (List ℕ)) → Sized store → Means (store .state) (store .bytes) (store .words) came
-    → Runs store calls → asks calls ≡ takings frames → Means (leaves store calls .state) (leaves store calls .bytes) (leaves store calls .words) (onto frames came)
+pub means : (frames : List (List ℕ)) (store : Store) (calls : List Call) (came : List (List ℕ)) → Sized store → Means (store .state) (store .bytes) (store .bits) came
+    → Runs store calls → asks calls ≡ takings frames → Means (leaves store calls .state) (leaves store calls .bytes) (leaves store calls .bits) (onto frames came)
 means [] store [] came sized m r e = m
 means [] store (call ∷ calls) came sized m r e = absurd (omega (arith, ap length e))
 means (frame ∷ frames) store [] came sized m r e = absurd (omega (arith, ap length e))
@@ -201,6 +201,6 @@ means (frame ∷ frames) store (call ∷ calls) came sized m r e =
 pub all-brought : (frames : List (List ℕ)) (store : Store) (calls : List Call) → Vacant store → Runs store calls → asks calls ≡ takings frames
     → (d : Datagram) (n : ℕ) → leaves store calls .state ≡ Complete d n → (place : ℕ) → place < n → Some (Brought d (leaves store calls .bytes) place) (onto frames [])
 all-brought frames store calls v r e d n held place h =
-    let first : Means (store .state) (store .bytes) (store .words) [] = subst (λ (s : State). Means s (store .bytes) (store .words) []) (sym (v .holds-nothing)) (v .no-block) in
-    let m = subst (λ (s : State). Means s (leaves store calls .bytes) (leaves store calls .words) (onto frames [])) held (means frames store calls [] (v .sized) first r e) in
+    let first : Means (store .state) (store .bytes) (store .bits) [] = subst (λ (s : State). Means s (store .bytes) (store .bits) []) (sym (v .holds-nothing)) (v .no-block) in
+    let m = subst (λ (s : State). Means s (leaves store calls .bytes) (leaves store calls .bits) (onto frames [])) held (means frames store calls [] (v .sized) first r e) in
     m .0 place (m .1 (place / 8) (omega arith)) h

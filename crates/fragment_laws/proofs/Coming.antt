@@ -31,11 +31,11 @@ use Rattle.fragment_laws.proofs.Permuting.{all-both}
 use Rattle.fragment_laws.proofs.Storing.{byte-put, byte-beside, Block, of-it, other, block, having-at-most-1}
 
 -- a fragment to come: fit, of the datagram and within it, and none of its blocks is there
-pub record Awaited (d : Datagram) (end : ℕ) (words frame : List ℕ) : Type 0 where
+pub record Awaited (d : Datagram) (end : ℕ) (bits frame : List ℕ) : Type 0 where
   pub fit : Fit frame
   pub name : piece frame .datagram ≡ d
   pub within : endOf (piece frame) ≤ end
-  pub absent : (b : ℕ) → firstBlock (piece frame) ≤ b → b < stopBlock (piece frame) → bit words b ≡ 0
+  pub absent : (b : ℕ) → firstBlock (piece frame) ≤ b → b < stopBlock (piece frame) → bit bits b ≡ 0
 
 -- a last one that ends here
 abbrev pub LastAt : (end : ℕ) (frame : List ℕ) → Type 0
@@ -51,10 +51,10 @@ pub record Coming (d : Datagram) (end : ℕ) (store : Store) (todo : List (List 
   pub sized : Sized store
   pub free : isHeld (store .state) d ≡ false
   pub known : EndSoFar end (knownEnd (store .state)) todo
-  pub awaited : All (Awaited d end (store .words)) todo
+  pub awaited : All (Awaited d end (store .bits)) todo
   pub apart : EachTwo Apart todo
-  pub before-end : (b : ℕ) → bit (store .words) b ≡ 1 → b * 8 < end
-  pub covered : (place : ℕ) → place < end → (bit (store .words) (place / 8) ≡ 1) ⊎ Some (Covers place) todo
+  pub before-end : (b : ℕ) → bit (store .bits) b ≡ 1 → b * 8 < end
+  pub covered : (place : ℕ) → place < end → (bit (store .bits) (place / 8) ≡ 1) ⊎ Some (Covers place) todo
 
 -- a last one to come counts
 some-last : (end : ℕ) (todo : List (List ℕ)) → Some (LastAt end) todo → 1 ≤ lasts todo
@@ -86,11 +86,11 @@ module _ (end : ℕ) (frame : List ℕ) (todo : List (List ℕ)) where
 
 -- what the next fragment makes of the blocks that are there
 abbrev pub thereWith : Store → (frame : List ℕ) → ℕ → ℕ
-thereWith store frame = having (bit (store .words)) (firstBlock (piece frame)) (stopBlock (piece frame))
+thereWith store frame = having (bit (store .bits)) (firstBlock (piece frame)) (stopBlock (piece frame))
 
 -- a block is one of the fragment's or another
 abbrev BlockWith : Store → (frame : List ℕ) (b : ℕ) → Type 0
-BlockWith store frame b = Block (bit (store .words)) (firstBlock (piece frame)) (stopBlock (piece frame)) b
+BlockWith store frame b = Block (bit (store .bits)) (firstBlock (piece frame)) (stopBlock (piece frame)) b
 
 -- when a datagram is complete
 module _ (d : Datagram) (end : ℕ) (there : ℕ → ℕ) (todo : List (List ℕ)) where
@@ -116,50 +116,50 @@ same-as-itself d = simp (eq-eqb (d .source) (d .source) refl, eq-eqb (d .target)
 -- the call that takes the next fragment
 module _ (d : Datagram) (end : ℕ) (store : Store) (frame : List ℕ) (todo : List (List ℕ)) (c : Coming d end store (frame ∷ todo)) where
   -- it doesn't get 12
-  no-overlap : overlaps (piece frame) (bit (store .words)) ≡ false
+  no-overlap : overlaps (piece frame) (bit (store .bits)) ≡ false
   unfolding overlaps
-  no-overlap = rw (eq-eqb _ 0 (count-none (bit (store .words)) (firstBlock (piece frame)) (stopBlock (piece frame) - firstBlock (piece frame)) (λ b l u. c .awaited .0 .absent b l (omega arith))))
+  no-overlap = rw (eq-eqb _ 0 (count-none (bit (store .bits)) (firstBlock (piece frame)) (stopBlock (piece frame) - firstBlock (piece frame)) (λ b l u. c .awaited .0 .absent b l (omega arith))))
 
   -- nor 13
-  no-wrong-end : (k : End) → EndSoFar end k (frame ∷ todo) → wrongEnd (piece frame) k (bit (store .words)) ≡ false
+  no-wrong-end : (k : End) → EndSoFar end k (frame ∷ todo) → wrongEnd (piece frame) k (bit (store .bits)) ≡ false
   unfolding wrongEnd blocksOf
   no-wrong-end k h = go (piece frame .last) refl k h
     where
-      none-behind : endOf (piece frame) ≡ end → (b : ℕ) → stopBlock (piece frame) ≤ b → bit (store .words) b ≡ 0
+      none-behind : endOf (piece frame) ≡ end → (b : ℕ) → stopBlock (piece frame) ≤ b → bit (store .bits) b ≡ 0
       none-behind e b l =
-          let out : bit (store .words) b ≡ 1 → ⊥ = λ there. omega (arith, c .before-end b there) in
-          omega (arith, bit-at-most-1 (store .words) b)
+          let out : bit (store .bits) b ≡ 1 → ⊥ = λ there. omega (arith, c .before-end b there) in
+          omega (arith, bit-at-most-1 (store .bits) b)
 
-      go : (t : Bool) → piece frame .last ≡ t → (k : End) → EndSoFar end k (frame ∷ todo) → wrongEnd (piece frame) k (bit (store .words)) ≡ false
+      go : (t : Bool) → piece frame .last ≡ t → (k : End) → EndSoFar end k (frame ∷ todo) → wrongEnd (piece frame) k (bit (store .bits)) ≡ false
       go true e Unknown h =
-          rw (e, eq-eqb _ 0 (count-none (bit (store .words)) (stopBlock (piece frame)) (8192 - stopBlock (piece frame)) (λ b l u. none-behind (is-the-last end frame todo (h .0) (h .1) e .0) b l)))
+          rw (e, eq-eqb _ 0 (count-none (bit (store .bits)) (stopBlock (piece frame)) (8192 - stopBlock (piece frame)) (λ b l u. none-behind (is-the-last end frame todo (h .0) (h .1) e .0) b l)))
       go true e (At end′) h = absurd (omega (arith, rw e at (h .1)))
       go false e Unknown h = rw e
       go false e (At end′) h = rw (e, le-ltb end′ (endOf (piece frame)) (omega (arith, h .0, c .awaited .0 .within)))
 
   -- so it is stored
-  rules : ruling (store .state) frame (length (store .bytes)) (store .words) ≡ Ruling.Write (piece frame) (endWith (piece frame) (knownEnd (store .state)))
+  rules : ruling (store .state) frame (length (store .bytes)) (store .bits) ≡ Ruling.Write (piece frame) (endWith (piece frame) (knownEnd (store .state)))
   unfolding ruling packetRuling partRuling ofSize
   rules =
-      rw (eq-eqb _ _ (c .sized .bytes-lent), eq-eqb _ _ (c .sized .words-lent), c .awaited .0 .fit, ap (isHeld (store .state)) (c .awaited .0 .name) ∙ c .free, no-overlap, no-wrong-end _ (c .known))
+      rw (eq-eqb _ _ (c .sized .bytes-lent), eq-eqb _ _ (c .sized .bits-lent), c .awaited .0 .fit, ap (isHeld (store .state)) (c .awaited .0 .name) ∙ c .free, no-overlap, no-wrong-end _ (c .known))
 
   -- a call that takes it
-  module _ (call : Call) (t : Takes (store .state) frame (store .bytes) (store .words) (call .bytes) (call .words) (call .taken)) where
+  module _ (call : Call) (t : Takes (store .state) frame (store .bytes) (store .bits) (call .bytes) (call .bits) (call .taken)) where
     -- what was to come of it
-    came : outcomeOf (store .state) (bit (store .words)) (ruling (store .state) frame (length (store .bytes)) (store .words))
+    came : outcomeOf (store .state) (bit (store .bits)) (ruling (store .state) frame (length (store .bytes)) (store .bits))
         ≡ settled d (endWith (piece frame) (knownEnd (store .state))) (thereWith store frame)
     unfolding outcomeOf
     came = rw (rules, c .awaited .0 .name)
 
     -- what it does to the store
-    effect : Effect (Ruling.Write (piece frame) (endWith (piece frame) (knownEnd (store .state)))) frame (store .bytes) (store .words) (call .bytes) (call .words)
-    effect = subst (λ (r : Ruling). Effect r frame (store .bytes) (store .words) (call .bytes) (call .words)) rules (t .store)
+    effect : Effect (Ruling.Write (piece frame) (endWith (piece frame) (knownEnd (store .state)))) frame (store .bytes) (store .bits) (call .bytes) (call .bits)
+    effect = subst (λ (r : Ruling). Effect r frame (store .bytes) (store .bits) (call .bytes) (call .bits)) rules (t .store)
 
     -- the bits, one by one
-    bits-after : (b : ℕ) → bit (call .words) b ≡ thereWith store frame b
+    bits-after : (b : ℕ) → bit (call .bits) b ≡ thereWith store frame b
     bits-after b =
         ap (λ (there : ℕ → ℕ). there b)
-        (marked (piece frame) (store .words) (call .words) (part-fits frame (piece frame) (c .awaited .0 .fit) .short) (c .sized .words-lent) (effect .1))
+        (marked (piece frame) (store .bits) (call .bits) (part-fits frame (piece frame) (c .awaited .0 .fit) .short) (c .sized .bits-lent) (effect .1))
 
     -- the payload is as long as its header says
     payload-long : length (part frame (piece frame .start) (piece frame .length)) ≡ piece frame .length
@@ -173,7 +173,7 @@ module _ (d : Datagram) (end : ℕ) (store : Store) (frame : List ℕ) (todo : L
     pub still-sized : Sized (after call)
     still-sized = record {
       bytes-lent = ap length (effect .0) ∙ length-put (piece frame .offset) _ (store .bytes) fits ∙ c .sized .bytes-lent;
-      words-lent = effect .1 .words ∙ c .sized .words-lent;
+      bits-lent = effect .1 .as-long ∙ c .sized .bits-lent;
     }
 
     -- a byte that it covers
@@ -185,7 +185,7 @@ module _ (d : Datagram) (end : ℕ) (store : Store) (frame : List ℕ) (todo : L
         ∙ getD-drop (piece frame .start) frame (place - piece frame .offset) 0
 
     -- a byte whose block is there
-    pub byte-kept : (place : ℕ) → bit (store .words) (place / 8) ≡ 1 → getD (call .bytes) place 0 ≡ getD (store .bytes) place 0
+    pub byte-kept : (place : ℕ) → bit (store .bits) (place / 8) ≡ 1 → getD (call .bytes) place 0 ≡ getD (store .bytes) place 0
     unfolding blocksOf
     byte-kept place there =
         ap (λ (l : List ℕ). getD l place 0) (effect .0)
@@ -194,7 +194,7 @@ module _ (d : Datagram) (end : ℕ) (store : Store) (frame : List ℕ) (todo : L
         omega (arith, payload-long))
 
     -- a block that is there stays
-    pub block-kept : (b : ℕ) → bit (store .words) b ≡ 1 → bit (call .words) b ≡ 1
+    pub block-kept : (b : ℕ) → bit (store .bits) b ≡ 1 → bit (call .bits) b ≡ 1
     block-kept b there = bits-after b ∙ go (block _ _ _ b)
       where
         go : BlockWith store frame b → thereWith store frame b ≡ 1
@@ -202,7 +202,7 @@ module _ (d : Datagram) (end : ℕ) (store : Store) (frame : List ℕ) (todo : L
         go (other out e) = e ∙ there
 
     -- the fragment's own come
-    pub block-come : (place : ℕ) → Covers place frame → bit (call .words) (place / 8) ≡ 1
+    pub block-come : (place : ℕ) → Covers place frame → bit (call .bits) (place / 8) ≡ 1
     unfolding blocksOf
     block-come place h = bits-after (place / 8) ∙ go (block _ _ _ (place / 8))
       where
@@ -211,16 +211,16 @@ module _ (d : Datagram) (end : ℕ) (store : Store) (frame : List ℕ) (todo : L
         go (other out e) = absurd (omega (arith, out (omega arith)))
 
     -- each place has its block or is covered by what is left
-    still-covered : (place : ℕ) → place < end → (bit (call .words) (place / 8) ≡ 1) ⊎ Some (Covers place) todo
+    still-covered : (place : ℕ) → place < end → (bit (call .bits) (place / 8) ≡ 1) ⊎ Some (Covers place) todo
     still-covered place h = go (c .covered place h)
       where
-        go : (bit (store .words) (place / 8) ≡ 1) ⊎ Some (Covers place) (frame ∷ todo) → (bit (call .words) (place / 8) ≡ 1) ⊎ Some (Covers place) todo
+        go : (bit (store .bits) (place / 8) ≡ 1) ⊎ Some (Covers place) (frame ∷ todo) → (bit (call .bits) (place / 8) ≡ 1) ⊎ Some (Covers place) todo
         go (inl there) = inl (block-kept (place / 8) there)
         go (inr (inl covers)) = inl (block-come place covers)
         go (inr (inr rest)) = inr rest
 
     -- a fragment that lies apart is still to come
-    still-awaited : (g : List ℕ) → Awaited d end (store .words) g → Apart frame g → Awaited d end (call .words) g
+    still-awaited : (g : List ℕ) → Awaited d end (store .bits) g → Apart frame g → Awaited d end (call .bits) g
     unfolding blocksOf
     still-awaited g w apart = record {
       fit = w .fit;
@@ -242,7 +242,7 @@ module _ (d : Datagram) (end : ℕ) (store : Store) (frame : List ℕ) (todo : L
       sized = still-sized;
       free = rw (state, same-as-itself d);
       known = rw state (next-end end frame todo (knownEnd (store .state)) (c .known));
-      awaited = all-both (Awaited d end (store .words)) (Apart frame) (Awaited d end (call .words)) still-awaited todo (c .awaited .1) (c .apart .0);
+      awaited = all-both (Awaited d end (store .bits)) (Apart frame) (Awaited d end (call .bits)) still-awaited todo (c .awaited .1) (c .apart .0);
       apart = c .apart .1;
       before-end = λ b there. within b (sym (bits-after b) ∙ there) (block _ _ _ b);
       covered = still-covered;
@@ -262,17 +262,17 @@ module _ (d : Datagram) (end : ℕ) (store : Store) (frame : List ℕ) (todo : L
         there : (b : ℕ) → b * 8 < end → thereWith store frame b ≡ 1
         there b h = sym (bits-after b) ∙ go (still-covered (b * 8) h)
           where
-            go : (bit (call .words) (b * 8 / 8) ≡ 1) ⊎ Some (Covers (b * 8)) todo → bit (call .words) b ≡ 1
-            go (inl there) = subst (λ (k : ℕ). bit (call .words) k ≡ 1) (omega arith) there
+            go : (bit (call .bits) (b * 8 / 8) ≡ 1) ⊎ Some (Covers (b * 8)) todo → bit (call .bits) b ≡ 1
+            go (inl there) = subst (λ (k : ℕ). bit (call .bits) k ≡ 1) (omega arith) there
             go (inr left) = absurd (nowhere (b * 8) left)
 
     -- where one is, it is not, and the rest can come
-    pub stored-now : (g : List ℕ) → Awaited d end (store .words) g → Apart frame g → (saidFor (call .taken .answer) ≡ stored) × Coming d end (after call) todo
+    pub stored-now : (g : List ℕ) → Awaited d end (store .bits) g → Apart frame g → (saidFor (call .taken .answer) ≡ stored) × Coming d end (after call) todo
     unfolding blocksOf
     stored-now g w apart =
         let some = part-fits g (piece g) (w .fit) .not-empty in
         let absent = still-awaited g w apart .absent (firstBlock (piece g)) (omega arith) (omega arith) in
-        let at-most-1 : (b : ℕ) → thereWith store frame b ≤ 1 = λ b. having-at-most-1 _ _ _ b (bit-at-most-1 (store .words) b) in
+        let at-most-1 : (b : ℕ) → thereWith store frame b ≤ 1 = λ b. having-at-most-1 _ _ _ b (bit-at-most-1 (store .bits) b) in
         let known = next-end end frame todo _ (c .known) in
         let more = came ∙ stored-before d end (thereWith store frame) todo at-most-1 (firstBlock (piece g)) (omega (arith, w .within)) (sym (bits-after _) ∙ absent) _ known in
         (t .answers ∙ ap (λ (o : Outcome). o .said) more, next-coming (t .next ∙ ap (λ (o : Outcome). o .state) more))

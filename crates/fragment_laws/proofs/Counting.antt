@@ -7,9 +7,9 @@ use native.Mathlib.Decide.{decLt}
 use Rattle.bitmap.specs.Bitmap.{bit, count}
 
 -- a block is there or not
-pub bit-at-most-1 : (words : List ℕ) (b : ℕ) → bit words b ≤ 1
+pub bit-at-most-1 : (bits : List ℕ) (b : ℕ) → bit bits b ≤ 1
 unfolding bit
-bit-at-most-1 words b = omega arith
+bit-at-most-1 bits b = omega arith
 
 -- no block of the range is there
 pub count-none : (there : ℕ → ℕ) (first n : ℕ) → ((b : ℕ) → first ≤ b → b < first + n → there b ≡ 0) → count there first n ≡ 0

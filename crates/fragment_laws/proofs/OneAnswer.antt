@@ -1,4 +1,4 @@
--- The contracts leave one answer: the same asked of the same store gets the same. `saidFor` is one-to-one, and words of 64 bits are told by their bits.
+-- The contracts leave one answer: the same asked of the same store gets the same. `saidFor` is one-to-one, and numbers of 64 bits are told by their bits.
 use Prim.Native.Nat.{ℕ, zero, suc, _+_, _*_, _/_, _%_, _^_, _<_}
 use mathlib.Core.Path.{_≡_, refl, ap, sym, _∙_}
 use mathlib.Core.List.{List}
@@ -18,7 +18,7 @@ use Rattle.fragments.specs.declared.answer.Answer.the-variants.{Passed, Stored,
 use Rattle.fragments.specs.declared.answer.Taken.{Taken}
 use Rattle.fragments.specs.declared.ruling.Ruling.{Ruling}
 use Rattle.fragments.specs.declared.ruling.Ruling.the-variants as Ruling
-use Rattle.fragment_laws.specs.Calls.{Store, Asked, taking, releasing, Words64, Keeps}
+use Rattle.fragment_laws.specs.Calls.{Store, Asked, taking, releasing, Of64Bits, Promised}
 
 -- the answer that the document says so
 answerOf : Said → Answer
@@ -52,10 +52,10 @@ same-digits (suc k) x y l m same =
     let halves : x / 2 ≡ y / 2 = same-digits k (x / 2) (y / 2) (omega arith) (omega arith) (λ j h. rw (shr-shr x 1 j, shr-shr y 1 j) (same (1 + j) (omega arith))) in
     omega arith
 
--- and words of 64 bits are
-pub same-words : (v w : List ℕ) → length v ≡ length w → Words64 v → Words64 w → ((b : ℕ) → bit v b ≡ bit w b) → v ≡ w
+-- and numbers of 64 bits are
+pub same-bits : (v w : List ℕ) → length v ≡ length w → Of64Bits v → Of64Bits w → ((b : ℕ) → bit v b ≡ bit w b) → v ≡ w
 unfolding bit
-same-words v w long small small′ same = ext-getD 0 v w long (λ i h. same-digits 64 (getD v i 0) (getD w i 0) (small i) (small′ i) (digit i))
+same-bits v w long small small′ same = ext-getD 0 v w long (λ i h. same-digits 64 (getD v i 0) (getD w i 0) (small i) (small′ i) (digit i))
   where
     digit : (i j : ℕ) → j < 64 → getD v i 0 / 2 ^ j % 2 ≡ getD w i 0 / 2 ^ j % 2
     digit i j h =
@@ -64,23 +64,23 @@ same-words v w long small small′ same = ext-getD 0 v w long (λ i h. same-digi
         rw (word, place) at (same (i * 64 + j))
 
 -- what a ruling does to a store is one thing
-one-effect : (r : Ruling) (frame bytes words bytes₁ words₁ bytes₂ words₂ : List ℕ) → Effect r frame bytes words bytes₁ words₁ → Effect r frame bytes words bytes₂ words₂
-    → Words64 words₁ → Words64 words₂ → (bytes₁ ≡ bytes₂) × (words₁ ≡ words₂)
-one-effect (Ruling.Refuse a) frame bytes words bytes₁ words₁ bytes₂ words₂ e f small small′ = (e .kept-bytes ∙ sym (f .kept-bytes), e .kept-bits ∙ sym (f .kept-bits))
-one-effect Ruling.Pass frame bytes words bytes₁ words₁ bytes₂ words₂ e f small small′ = (e .kept-bytes ∙ sym (f .kept-bytes), e .kept-bits ∙ sym (f .kept-bits))
-one-effect (Ruling.Write p end) frame bytes words bytes₁ words₁ bytes₂ words₂ e f small small′ =
-    (e .0 ∙ sym (f .0), same-words words₁ words₂ (e .1 .words ∙ sym (f .1 .words)) small small′ (λ b. e .1 .bits b ∙ sym (f .1 .bits b)))
+one-effect : (r : Ruling) (frame bytes bits bytes₁ bits₁ bytes₂ bits₂ : List ℕ) → Effect r frame bytes bits bytes₁ bits₁ → Effect r frame bytes bits bytes₂ bits₂
+    → Of64Bits bits₁ → Of64Bits bits₂ → (bytes₁ ≡ bytes₂) × (bits₁ ≡ bits₂)
+one-effect (Ruling.Refuse a) frame bytes bits bytes₁ bits₁ bytes₂ bits₂ e f small small′ = (e .kept-bytes ∙ sym (f .kept-bytes), e .kept-bits ∙ sym (f .kept-bits))
+one-effect Ruling.Pass frame bytes bits bytes₁ bits₁ bytes₂ bits₂ e f small small′ = (e .kept-bytes ∙ sym (f .kept-bytes), e .kept-bits ∙ sym (f .kept-bits))
+one-effect (Ruling.Write p end) frame bytes bits bytes₁ bits₁ bytes₂ bits₂ e f small small′ =
+    (e .0 ∙ sym (f .0), same-bits bits₁ bits₂ (e .1 .as-long ∙ sym (f .1 .as-long)) small small′ (λ b. e .1 .bits b ∙ sym (f .1 .bits b)))
 
 -- so the same asked of the same store gets the same answer, and leaves the same store
-pub one-answer : (asked : Asked) (before after after′ : Store) (taken taken′ : Taken) → Keeps asked before after taken → Keeps asked before after′ taken′
-    → (taken ≡ taken′) × (after .bytes ≡ after′ .bytes) × (after .words ≡ after′ .words)
+pub one-answer : (asked : Asked) (before after after′ : Store) (taken taken′ : Taken) → Promised asked before after taken → Promised asked before after′ taken′
+    → (taken ≡ taken′) × (after .bytes ≡ after′ .bytes) × (after .bits ≡ after′ .bits)
 one-answer (taking frame) before after after′ taken taken′ k l =
     let answer = saidFor-one-to-one _ _ (k .0 .answers ∙ sym (l .0 .answers)) in
     let state = k .0 .next ∙ sym (l .0 .next) in
-    let r = ruling (before .state) frame (length (before .bytes)) (before .words) in
-    let store = one-effect r frame (before .bytes) (before .words) (after .bytes) (after .words) (after′ .bytes) (after′ .words) (k .0 .store) (l .0 .store) (k .1) (l .1) in
+    let r = ruling (before .state) frame (length (before .bytes)) (before .bits) in
+    let store = one-effect r frame (before .bytes) (before .bits) (after .bytes) (after .bits) (after′ .bytes) (after′ .bits) (k .0 .store) (l .0 .store) (k .1) (l .1) in
     (λ i. record { answer = answer i; state = state i }, store .0, store .1)
 one-answer releasing before after after′ taken taken′ k l =
     let answer = saidFor-one-to-one _ _ (k .0 .answers ∙ sym (l .0 .answers)) in
     let state = k .0 .next ∙ sym (l .0 .next) in
-    (λ i. record { answer = answer i; state = state i }, k .1 ∙ sym (l .1), k .0 .bits ∙ sym (l .0 .bits))
+    (λ i. record { answer = answer i; state = state i }, k .1 ∙ sym (l .1), k .0 .cleared ∙ sym (l .0 .cleared))

@@ -23,13 +23,13 @@ use Rattle.fragment_laws.proofs.Coming.{Awaited, LastAt, Coming, still-
 record AllTaken (d : Datagram) (end : ℕ) (store : Store) (todo : List (List ℕ)) (calls : List Call) : Type 0 where
   held : leaves store calls .state ≡ Complete d end
   lent : length (leaves store calls .bytes) ≡ 65515
-  kept : (place : ℕ) → bit (store .words) (place / 8) ≡ 1 → getD (leaves store calls .bytes) place 0 ≡ getD (store .bytes) place 0
+  kept : (place : ℕ) → bit (store .bits) (place / 8) ≡ 1 → getD (leaves store calls .bytes) place 0 ≡ getD (store .bytes) place 0
   come : All (λ (frame : List ℕ). (place : ℕ) → Covers place frame → getD (leaves store calls .bytes) place 0 ≡ byteFor place frame) todo
 
 module _ (d : Datagram) (end : ℕ) where
   -- one call and then the others
   and-then : (store : Store) (frame : List ℕ) (todo : List (List ℕ)) (c : Coming d end store (frame ∷ todo)) (call : Call)
-      → Takes (store .state) frame (store .bytes) (store .words) (call .bytes) (call .words) (call .taken)
+      → Takes (store .state) frame (store .bytes) (store .bits) (call .bytes) (call .bits) (call .taken)
       → (calls : List Call) → AllTaken d end (after call) todo calls → AllTaken d end store (frame ∷ todo) (call ∷ calls)
   and-then store frame todo c call t calls rest = record {
     held = rest .held;
@@ -69,7 +69,7 @@ module _ (d : Datagram) (end : ℕ) (frames order : List (List ℕ)) (store : St
     sized = v .sized;
     free = rw (v .holds-nothing);
     known = rw (v .holds-nothing) (sym (lasts-permuted p) ∙ train .one-last, some-permuted (LastAt end) p (train .which-ends));
-    awaited = all-permuted (Awaited d end (store .words)) p awaited;
+    awaited = all-permuted (Awaited d end (store .bits)) p awaited;
     apart = each-two-permuted Apart apart-back p (train .do-not-overlap);
     before-end = λ b there. absurd (omega (arith, v .no-block b));
     covered = λ place h. inr (some-permuted (Covers place) p (train .cover-from-0 place h));
@@ -78,7 +78,7 @@ module _ (d : Datagram) (end : ℕ) (frames order : List (List ℕ)) (store : St
       fit-and-named : All (λ (frame : List ℕ). Fit frame × (piece frame .datagram ≡ d)) frames
       fit-and-named = all-both Fit _ _ (λ frame fit name. (fit, name)) frames (train .none-gets-10) (train .of-one-datagram)
 
-      awaited : All (Awaited d end (store .words)) frames
+      awaited : All (Awaited d end (store .bits)) frames
       awaited = all-both _ _ _ (λ frame w within. record { fit = w .0; name = w .1; within = within; absent = λ b l u. v .no-block b }) frames fit-and-named (train .furthest)
 
   -- the store is long enough for it

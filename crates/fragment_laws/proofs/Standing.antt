@@ -16,7 +16,7 @@ use Rattle.fragments.specs.declared.answer.Answer.the-variants as Answer
 use Rattle.packets.specs.declared.packet.Datagram.{Datagram}
 use Rattle.fragments.specs.declared.answer.State.{State}
 use Rattle.fragments.specs.declared.answer.State.the-variants.{Complete}
-use Rattle.fragment_laws.specs.Calls.{Store, Sized, Vacant, taking, releasing, Call, after, Keeps, Runs, asks}
+use Rattle.fragment_laws.specs.Calls.{Store, Sized, Vacant, taking, releasing, Call, after, Promised, Keeps, Runs, asks}
 use Rattle.fragment_laws.specs.Trains.{All, takings, Stands}
 use Rattle.fragment_laws.proofs.OneAnswer.{saidFor-one-to-one}
 use Rattle.fragments.proofs.Ruled.{stored}
@@ -25,15 +25,15 @@ use Rattle.fragment_laws.proofs.Leaving.{takes, leaves-alone}
 module _ (d : Datagram) (n : ℕ) where
   -- one call: a complete store is held
   stands-once : (store : Store) (frame : List ℕ) (call : Call) → store .state ≡ Complete d n → call .asked ≡ taking frame
-      → Keeps (call .asked) store (after call) (call .taken) → Stands store call
+      → Keeps store call → Stands store call
   unfolding ruling packetRuling partRuling ofSize isHeld outcomeOf saidFor
   stands-once store frame call held asked k =
       record {
         as-it-was =
             leaves-alone store frame call asked k (λ f end e.
-            true≢false (rw held at (stored (store .state) frame (length (store .bytes)) (store .words) f end e .1 .free)));
+            true≢false (rw held at (stored (store .state) frame (length (store .bytes)) (store .bits) f end e .1 .free)));
         gets-11 = λ sized frame′ asked′ fit.
-            takes store frame′ call asked′ k .answers ∙ rw (held, eq-eqb _ _ (sized .bytes-lent), eq-eqb _ _ (sized .words-lent), fit);
+            takes store frame′ call asked′ k .answers ∙ rw (held, eq-eqb _ _ (sized .bytes-lent), eq-eqb _ _ (sized .bits-lent), fit);
       }
 
   -- "complete stands until released": through any frames
@@ -51,7 +51,7 @@ pub handed-out : (a : Answer) (s : State) (frame bytes : List ℕ) → saidFor a
 unfolding saidFor payloadOf
 handed-out a s frame bytes e = ap (λ (x : Answer). payloadOf x s frame bytes) (saidFor-one-to-one a Answer.Complete e)
 
--- words of zeros
+-- bits of zeros
 zeros : (n i : ℕ) → _≡_ {A = ℕ} (getD (replicate n 0) i 0) 0
 zeros zero i = refl
 zeros (suc n) zero = refl
@@ -63,14 +63,14 @@ unfolding bit
 no-bit n b = rw (zeros n (b / 64), zero-div (2 ^ (b % 64)))
 
 -- a release empties a store
-pub released-is-vacant : (store : Store) (call : Call) → Sized store → Keeps releasing store (after call) (call .taken) → (saidFor (call .taken .answer) ≡ released) × Vacant (after call)
+pub released-is-vacant : (store : Store) (call : Call) → Sized store → Promised releasing store (after call) (call .taken) → (saidFor (call .taken .answer) ≡ released) × Vacant (after call)
 unfolding ofSize
 released-is-vacant store call sized k =
-    let of-size : ofSize (length (store .bytes)) (length (store .words)) ≡ true = rw (eq-eqb _ _ (sized .bytes-lent), eq-eqb _ _ (sized .words-lent)) in
-    let zeroed : call .words ≡ replicate 128 0 = rw of-size at (k .0 .bits) in (
+    let of-size : ofSize (length (store .bytes)) (length (store .bits)) ≡ true = rw (eq-eqb _ _ (sized .bytes-lent), eq-eqb _ _ (sized .bits-lent)) in
+    let zeroed : call .bits ≡ replicate 128 0 = rw of-size at (k .0 .cleared) in (
       rw of-size at (k .0 .answers),
       record {
-        sized = record { bytes-lent = ap length (k .1) ∙ sized .bytes-lent; words-lent = ap length zeroed ∙ length-replicate {A = ℕ} 128 0 };
+        sized = record { bytes-lent = ap length (k .1) ∙ sized .bytes-lent; bits-lent = ap length zeroed ∙ length-replicate {A = ℕ} 128 0 };
         holds-nothing = rw of-size at (k .0 .next);
         no-block = λ b. ap (λ (w : List ℕ). bit w b) zeroed ∙ no-bit 128 b;
       },

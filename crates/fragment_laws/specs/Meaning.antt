@@ -24,14 +24,14 @@ BeforeEnd Unknown place = Unit
 BeforeEnd (At end) place = place < end
 
 -- each byte of a block that is there, before the end, was brought by one of the frames that have come
-abbrev pub Knows : Datagram → End → (bytes words : List ℕ) (came : List (List ℕ)) → Type 0
-Knows d end bytes words came = (place : ℕ) → bit words (place / 8) ≡ 1 → BeforeEnd end place → Some (Brought d bytes place) came
+abbrev pub Knows : Datagram → End → (bytes bits : List ℕ) (came : List (List ℕ)) → Type 0
+Knows d end bytes bits came = (place : ℕ) → bit bits (place / 8) ≡ 1 → BeforeEnd end place → Some (Brought d bytes place) came
 
 -- what a store means after these frames: empty, no block is there; filling, what is there was brought; complete, and nothing is missing
-abbrev pub Means : State → (bytes words : List ℕ) (came : List (List ℕ)) → Type 0
-Means Empty bytes words came = (b : ℕ) → bit words b ≡ 0
-Means (Filling d end) bytes words came = Knows d end bytes words came
-Means (Complete d n) bytes words came = Knows d (At n) bytes words came × ((b : ℕ) → b * 8 < n → bit words b ≡ 1)
+abbrev pub Means : State → (bytes bits : List ℕ) (came : List (List ℕ)) → Type 0
+Means Empty bytes bits came = (b : ℕ) → bit bits b ≡ 0
+Means (Filling d end) bytes bits came = Knows d end bytes bits came
+Means (Complete d n) bytes bits came = Knows d (At n) bytes bits came × ((b : ℕ) → b * 8 < n → bit bits b ≡ 1)
 
 -- the frames that have come, the latest first
 abbrev pub onto : (frames came : List (List ℕ)) → List (List ℕ)

@@ -8,6 +8,7 @@ use mathlib.Core.Logic.{_⊎_}
 use mathlib.Core.Path.{_≡_}
 use mathlib.Core.List.{List, [], _∷_}
 use lib.ListN.{length, getD}
+use Rattle.base.specs.Runs.{each}
 use Rattle.wire.specs.Rfc894.{body}
 use Rattle.fragments.specs.Answer.{stored, complete, refused, saidFor}
 use Rattle.fragments.specs.Promises.{storedPayload}
@@ -75,8 +76,7 @@ pub record Train (datagram : Datagram) (end : ℕ) (frames : List (List ℕ)) : 
 
 -- each frame taken, in the order of the list
 abbrev pub takings : (frames : List (List ℕ)) → List Asked
-takings [] = []
-takings (frame ∷ frames) = taking frame ∷ takings frames
+takings = each taking
 
 -- "the last call answers complete and the earlier ones stored"
 abbrev pub StoredThenComplete : List Call → Type 0

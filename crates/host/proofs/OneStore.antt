@@ -35,4 +35,4 @@ pub one-release : (words bytes bits words₁ bits₁ words₂ bits₂ : List ℕ
     → Freed words bytes bits words₁ bits₁ n₁ → Freed words bytes bits words₂ bits₂ n₂
     → ((n₁ ≡ n₂) × (words₁ ≡ words₂)) × (bits₁ ≡ bits₂)
 one-release words bytes bits words₁ bits₁ words₂ bits₂ n₁ n₂ f g =
-    (same-telling (one-released (f .releases) (g .releases)) (f .tells) (g .tells), f .releases .bits ∙ sym (g .releases .bits))
+    (same-telling (one-released (f .releases) (g .releases)) (f .tells) (g .tells), f .releases .cleared ∙ sym (g .releases .cleared))

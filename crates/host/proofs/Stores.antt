@@ -19,7 +19,7 @@ unfolding numberOf changes wordsOf
 emptied words bytes bits words′ bits′ n f e =
     let said : saidFor (f .taken .answer) ≡ released = rw e at (f .releases .answers) in
     let next : f .taken .state ≡ Empty = rw e at (f .releases .next) in
-    let cleared : bits′ ≡ replicate 128 0 = rw e at (f .releases .bits) in
+    let cleared : bits′ ≡ replicate 128 0 = rw e at (f .releases .cleared) in
     let written : words′ ≡ wordsOf (f .taken .state) = rw said at (f .tells .written) in
     (f .tells .numbered ∙ ap numberOf said, written ∙ ap wordsOf next, cleared)
 

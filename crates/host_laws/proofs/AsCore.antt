@@ -26,18 +26,18 @@ state-of releasing lent made k = k .0 .next
 
 -- the call, as the core's
 abbrev pub coreCall : (lent : Lent) (made : Made) → KeepsIt (made .asked) lent made → Call
-coreCall lent made k = record { who = 0; asked = made .asked; taken = takenOf (made .asked) lent made k; bytes = made .left .bytes; words = made .left .bits }
+coreCall lent made k = record { who = 0; asked = made .asked; taken = takenOf (made .asked) lent made k; bytes = made .left .bytes; bits = made .left .bits }
 
 abbrev pub coreCalls : (lent : Lent) (made : List Made) → Makes lent made → List Call
 coreCalls lent [] m = []
 coreCalls lent (made ∷ rest) m = coreCall lent made (m .0) ∷ coreCalls (made .left) rest (m .1)
 
 pub same-store : (lent : Lent) (made : Made) (k : KeepsIt (made .asked) lent made) → storeOf (made .left) ≡ after (coreCall lent made k)
-same-store lent made k = λ i. record { state = state-of (made .asked) lent made k i; bytes = made .left .bytes; words = made .left .bits }
+same-store lent made k = λ i. record { state = state-of (made .asked) lent made k i; bytes = made .left .bytes; bits = made .left .bits }
 
 -- what was promised to C was promised by the core
 pub keeps : (asked : Asked) (lent : Lent) (made : Made) (k : KeepsIt asked lent made)
-    → Keeps asked (storeOf lent) (record { state = takenOf asked lent made k .state; bytes = made .left .bytes; words = made .left .bits }) (takenOf asked lent made k)
+    → Keeps asked (storeOf lent) (record { state = takenOf asked lent made k .state; bytes = made .left .bytes; bits = made .left .bits }) (takenOf asked lent made k)
 keeps (taking frame) lent made k = (k .0 .takes, k .1)
 keeps releasing lent made k = (k .0 .releases, k .1, k .2)
 

@@ -31,8 +31,8 @@ every-order-there datagram end frames order lent made train p v m e =
 pub released-there : (lent : Lent) (made : Made) → Sized (storeOf lent) → KeepsIt releasing lent made → (made .number ≡ 23) × Vacant (storeOf (made .left))
 unfolding numberOf
 released-there lent made sized k =
-    let call : Call = record { who = 0; asked = releasing; taken = k .0 .taken; bytes = made .left .bytes; words = made .left .bits } in
+    let call : Call = record { who = 0; asked = releasing; taken = k .0 .taken; bytes = made .left .bytes; bits = made .left .bits } in
     let both = released-is-vacant (storeOf lent) call sized (keeps releasing lent made k) in
-    let same : storeOf (made .left) ≡ record { state = k .0 .taken .state; bytes = made .left .bytes; words = made .left .bits } =
-    λ i. record { state = state-of releasing lent made k i; bytes = made .left .bytes; words = made .left .bits } in
+    let same : storeOf (made .left) ≡ record { state = k .0 .taken .state; bytes = made .left .bytes; bits = made .left .bits } =
+    λ i. record { state = state-of releasing lent made k i; bytes = made .left .bytes; bits = made .left .bits } in
     (number-of releasing lent made k ∙ ap numberOf (both .0), subst Vacant (sym same) (both .1))

@@ -3,7 +3,7 @@ use Prim.Native.Nat.{ℕ}
 use mathlib.Core.Path.{_≡_}
 use mathlib.Core.List.{List, [], _∷_}
 use lib.ListN.{length, getD}
-use Rattle.fragment_laws.specs.Calls.{Store, Asked, taking, releasing, Words64}
+use Rattle.fragment_laws.specs.Calls.{Store, Asked, taking, releasing, Of64Bits}
 use Rattle.fragment_laws.specs.Trains.{All, Covers, byteFor}
 use Rattle.fragments.specs.Promises.{storedPayload}
 use Rattle.packets.specs.declared.packet.Datagram.{Datagram}
@@ -19,7 +19,7 @@ pub record Lent : Type 0 where
 
 -- the store that it is
 abbrev pub storeOf : Lent → Store
-storeOf lent = record { state = stateOf (lent .words); bytes = lent .bytes; words = lent .bits }
+storeOf lent = record { state = stateOf (lent .words); bytes = lent .bytes; bits = lent .bits }
 
 -- A call that was made: what was asked, what it left in the memory, and what it told.
 pub record Made : Type 0 where
@@ -32,11 +32,11 @@ pub record Made : Type 0 where
 abbrev pub KeepsIt : Asked → Lent → Made → Type 0
 KeepsIt (taking frame) lent made =
     Took (lent .words) frame (lent .bytes) (lent .bits) (made .left .words) (made .left .bytes) (made .left .bits) (made .place) (made .number)
-    × Words64 (made .left .bits)
+    × Of64Bits (made .left .bits)
 KeepsIt releasing lent made =
     Freed (lent .words) (lent .bytes) (lent .bits) (made .left .words) (made .left .bits) (made .number)
     × (made .left .bytes ≡ lent .bytes)
-    × Words64 (made .left .bits)
+    × Of64Bits (made .left .bits)
 
 -- calls one after the other
 abbrev pub Makes : Lent → List Made → Type 0
