@@ -18,7 +18,7 @@ use Rattle.fragments.specs.declared.answer.State.{State}
 use Rattle.fragments.specs.declared.answer.State.the-variants.{Complete}
 use Rattle.fragment_laws.specs.Calls.{Store, Sized, Vacant, taking, releasing, Call, after, Promised, Keeps, Runs, asks}
 use Rattle.fragment_laws.specs.Trains.{All, takings, Stands}
-use Rattle.fragment_laws.proofs.OneAnswer.{saidFor-one-to-one}
+use Rattle.fragments.proofs.OneAnswer.{said-one-to-one}
 use Rattle.fragments.proofs.Ruled.{stored}
 use Rattle.fragment_laws.proofs.Leaving.{takes, leaves-alone}
 
@@ -49,15 +49,15 @@ module _ (d : Datagram) (n : ℕ) where
 -- the payload that is handed out on complete is the stored one
 pub handed-out : (a : Answer) (s : State) (frame bytes : List ℕ) → saidFor a ≡ complete → payloadOf a s frame bytes ≡ storedPayload bytes s
 unfolding saidFor payloadOf
-handed-out a s frame bytes e = ap (λ (x : Answer). payloadOf x s frame bytes) (saidFor-one-to-one a Answer.Complete e)
+handed-out a s frame bytes e = ap (λ (x : Answer). payloadOf x s frame bytes) (said-one-to-one a Answer.Complete e)
 
--- bits of zeros
+-- a bitmap of zeros
 zeros : (n i : ℕ) → _≡_ {A = ℕ} (getD (replicate n 0) i 0) 0
 zeros zero i = refl
 zeros (suc n) zero = refl
 zeros (suc n) (suc i) = zeros n i
 
--- have no bit
+-- has no bit
 no-bit : (n b : ℕ) → bit (replicate n 0) b ≡ 0
 unfolding bit
 no-bit n b = rw (zeros n (b / 64), zero-div (2 ^ (b % 64)))

@@ -10,7 +10,7 @@ use Rattle.base.specs.Buffer.{put}
 use mathlib.Core.Bool.{cond}
 use Rattle.fragments.specs.Answer.{released, refused, saidFor}
 use Rattle.packets.specs.Packets.{packetOf}
-use Rattle.fragments.specs.Rules.{ofSize, ruling, settled, outcomeOf, firstBlock, stopBlock}
+use Rattle.fragments.specs.Rules.{ofSize, ruling, outcomeOf, firstBlock, stopBlock}
 use Rattle.fragments.specs.declared.answer.Answer.{Answer}
 use Rattle.fragments.specs.declared.answer.Answer.the-variants as Answer
 use Rattle.packets.specs.declared.packet.Datagram.{Datagram}
@@ -34,11 +34,6 @@ Effect (Refuse answer) frame bytes bits bytes′ bits′ = Untouched bytes bits 
 Effect Pass frame bytes bits bytes′ bits′ = Untouched bytes bits bytes′ bits′
 Effect (Write f end) frame bytes bits bytes′ bits′ =
     (bytes′ ≡ put (f .offset) (part frame (f .start) (f .length)) bytes) × Marked (firstBlock f) (stopBlock f) bits bits′
-
--- the answer once blocks are there, and the state
-pub record Settles (datagram : Datagram) (end : End) (there : ℕ → ℕ) (taken : Taken) : Type 0 where
-  pub answers : saidFor (taken .answer) ≡ settled datagram end there .said
-  pub next : taken .state ≡ settled datagram end there .state
 
 -- A ruling is carried out: what is answered, the state, and the store.
 pub record Does (ruling : Ruling) (state : State) (frame bytes bits bytes′ bits′ : List ℕ) (taken : Taken) : Type 0 where

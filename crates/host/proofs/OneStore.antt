@@ -9,12 +9,12 @@ use Rattle.fragments.specs.Answer.{saidFor}
 use Rattle.fragments.specs.Rules.{ruling}
 use Rattle.fragments.specs.declared.answer.Taken.{Taken}
 use Rattle.host.specs.Reassembly.{Took, Freed}
-use Rattle.store_words.proofs.OneAnswer.{one-taken, one-released, one-effect}
-use Rattle.store_words.specs.Told.{Tells, numberOf, changes, placeOf}
+use Rattle.fragments.proofs.OneAnswer.{one-taken, one-released, one-effect}
+use Rattle.store_words.specs.Reports.{Reports, numberOf, changes, placeOf}
 use Rattle.store_words.specs.Words.{stateOf, wordsOf}
 
 -- what is told of one answer
-same-telling : {words words₁ words₂ : List ℕ} {n₁ n₂ : ℕ} {t u : Taken} → t ≡ u → Tells words words₁ t n₁ → Tells words words₂ u n₂ → (n₁ ≡ n₂) × (words₁ ≡ words₂)
+same-telling : {words words₁ words₂ : List ℕ} {n₁ n₂ : ℕ} {t u : Taken} → t ≡ u → Reports words words₁ t n₁ → Reports words words₂ u n₂ → (n₁ ≡ n₂) × (words₁ ≡ words₂)
 same-telling {words} e s r = (
   s .numbered ∙ ap (λ (x : Taken). numberOf (saidFor (x .answer))) e ∙ sym (r .numbered),
   s .written ∙ ap (λ (x : Taken). cond (changes (saidFor (x .answer))) (wordsOf (x .state)) words) e ∙ sym (r .written),

@@ -8,8 +8,9 @@ use Rattle.fragments.specs.Answer.{released, saidFor}
 use Rattle.fragments.specs.Rules.{ofSize, ruling}
 use Rattle.fragments.specs.declared.answer.State.the-variants.{Empty}
 use Rattle.host.specs.Reassembly.{Took, Freed}
-use Rattle.store_words.proofs.Standing.{leaves-alone, low-number}
-use Rattle.store_words.specs.Told.{numberOf, changes}
+use Rattle.store_words.proofs.Changing.{leaves-alone}
+use Rattle.store_words.proofs.Numbers.{low-number}
+use Rattle.store_words.specs.Reports.{numberOf, changes}
 use Rattle.store_words.specs.Words.{stateOf, wordsOf}
 
 -- a store that is lent at its size is empty afterwards, whatever the words, the bytes and the bits were

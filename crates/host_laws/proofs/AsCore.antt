@@ -6,7 +6,7 @@ use Rattle.fragment_laws.specs.Trains.{StoredThenComplete}
 use Rattle.fragments.specs.Answer.{Said, stored, complete, saidFor}
 use Rattle.fragments.specs.declared.answer.Taken.{Taken}
 use Rattle.host_laws.specs.Made.{Lent, storeOf, Made, KeepsIt, Makes, lastLent, asksOf, Told21Then22}
-use Rattle.store_words.specs.Told.{numberOf}
+use Rattle.store_words.specs.Reports.{numberOf}
 use Rattle.store_words.specs.Words.{stateOf}
 
 -- what the core answered in a call

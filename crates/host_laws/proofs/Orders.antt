@@ -10,7 +10,7 @@ use Rattle.fragment_laws.specs.Trains.{Permuted, Train, takings, All, Covers, b
 use Rattle.packets.specs.declared.packet.Datagram.{Datagram}
 use Rattle.host_laws.proofs.AsCore.{coreCalls, as-core, same-asked, same-left, numbers-told, keeps, number-of, state-of}
 use Rattle.host_laws.specs.Made.{Lent, storeOf, Made, KeepsIt, Makes, asksOf, payloadIn, ArrivedThere}
-use Rattle.store_words.specs.Told.{numberOf}
+use Rattle.store_words.specs.Reports.{numberOf}
 
 pub every-order-there : (datagram : Datagram) (end : ℕ) (frames order : List (List ℕ)) (lent : Lent) (made : List Made)
     → Train datagram end frames → Permuted frames order → Vacant (storeOf lent) → Makes lent made → asksOf made ≡ takings order

@@ -1,13 +1,14 @@
 -- What a frame that is not unfit has: a payload that lies in it, and as a fragment some bytes that end at 65,515 at most. The tests that it
 -- passed say so.
 use Prim.Native.Nat.{ℕ, _+_, _%_, _≤_}
-use mathlib.Core.Path.{_≡_, refl, subst}
+use mathlib.Core.Path.{_≡_, refl, sym, subst}
 use mathlib.Core.Bool.{Bool, true, false, _&&_, _||_, not, and-eq-true-iff, cond}
 use mathlib.Core.List.{List}
 use native.Mathlib.Omega.{arith}
 use borrow.Author.Tests.{leb-true, not-true, not-false, eqb-true, eqb-false}
 use lib.ListN.{length, length-drop}
 use lib.Dec.{leb, eqb}
+use Rattle.base.proofs.Choice.{by-test, second-arm}
 use Rattle.wire.specs.Rfc791.{version, headerLength, totalLength, moreFragments, fragmentOffset}
 use Rattle.wire.specs.Rfc894.{body, typeOf}
 use Rattle.packets.specs.Packets.{soundHeader, sound, isWhole, payloadLength, goodLength, fragmentOf, endOf, packetOf}
@@ -15,14 +16,15 @@ use Rattle.packets.specs.declared.packet.Fragment.{Fragment}
 use Rattle.packets.specs.declared.packet.Packet.{Packet}
 use Rattle.packets.specs.declared.packet.Packet.the-variants.{Unfit, Whole, Part}
 
--- a test that would have given another packet has failed
-past-unfit : (t : Bool) (p : Packet) (f : Fragment) → cond t Unfit p ≡ Part f → (t ≡ false) × (p ≡ Part f)
-past-unfit true p f e = let z : _≡_ {A = ℕ} 0 1 = cc in absurd (omega arith)
-past-unfit false p f e = (refl, e)
+-- a packet of one kind is of no other
+unfit-no-part : {f : Fragment} → Unfit ≡ Part f → ⊥
+unfit-no-part e = let z : _≡_ {A = ℕ} 0 1 = cc in omega arith
 
-past-whole : (t : Bool) (start length : ℕ) (p : Packet) (f : Fragment) → cond t (Whole start length) p ≡ Part f → p ≡ Part f
-past-whole true start length p f e = let z : _≡_ {A = ℕ} 0 1 = cc in absurd (omega arith)
-past-whole false start length p f e = e
+unfit-no-whole : {start n : ℕ} → Unfit ≡ Whole start n → ⊥
+unfit-no-whole e = let z : _≡_ {A = ℕ} 0 1 = cc in omega arith
+
+whole-no-part : {start n : ℕ} {f : Fragment} → Whole start n ≡ Part f → ⊥
+whole-no-part e = let z : _≡_ {A = ℕ} 0 1 = cc in omega arith
 
 -- the lengths in a sound frame
 pub record Lengths (frame : List ℕ) : Type 0 where
@@ -70,10 +72,10 @@ record Passed (frame : List ℕ) (f : Fragment) : Type 0 where
 passed : (frame : List ℕ) (f : Fragment) → packetOf frame ≡ Part f → Passed frame f
 unfolding packetOf
 passed frame f e =
-    let one = past-unfit (not (sound frame)) _ _ e in
-    let two = past-whole (isWhole (body frame)) _ _ _ _ (one .1) in
-    let three = past-unfit (not (goodLength (moreFragments (body frame)) (payloadLength (body frame)))) _ _ two in
-    let four = past-unfit (not (leb (fragmentOffset (body frame) + payloadLength (body frame)) 65515)) _ _ (three .1) in
+    let one = second-arm (not (sound frame)) unfit-no-part e in
+    let two = second-arm (isWhole (body frame)) whole-no-part (one .1) in
+    let three = second-arm (not (goodLength (moreFragments (body frame)) (payloadLength (body frame)))) unfit-no-part (two .1) in
+    let four = second-arm (not (leb (fragmentOffset (body frame) + payloadLength (body frame)) 65515)) unfit-no-part (three .1) in
     record { is = cc; is-sound = not-false _ (one .0); good = not-false _ (three .0); near = not-false _ (four .0) }
 
 -- it is the fragment that its frame holds
@@ -102,24 +104,25 @@ ends-at-block frame f e = let tests = passed frame f e in subst (λ (g : Fragmen
     go true e m = omega (arith, at-block (body frame), eqb-true (payloadLength (body frame) % 8) 0 (and-eq-true-iff (not (eqb (payloadLength (body frame)) 0)) _ .0 e .1))
     go false e m = let z : _≡_ {A = ℕ} 0 1 = cc in absurd (omega arith)
 
--- a whole datagram's payload lies in its frame too
-pub whole-fits : (frame : List ℕ) (start n : ℕ) → packetOf frame ≡ Whole start n → start + n ≤ length frame
-unfolding packetOf
-whole-fits frame start n =
-    go (sound frame) (isWhole (body frame)) (not (goodLength (moreFragments (body frame)) (payloadLength (body frame))))
-    (not (leb (fragmentOffset (body frame) + payloadLength (body frame)) 65515)) (fragmentOf (body frame)) refl
-  where
-    fragment : (x y : Bool) (f : Fragment) → cond x Unfit (cond y Unfit (Part f)) ≡ Whole start n → ⊥
-    fragment true y f e = let z : _≡_ {A = ℕ} 0 1 = cc in omega arith
-    fragment false true f e = let z : _≡_ {A = ℕ} 0 1 = cc in omega arith
-    fragment false false f e = let z : _≡_ {A = ℕ} 0 1 = cc in omega arith
+-- a whole datagram is sound, and its payload stands behind its header
+pub record IsWhole (frame : List ℕ) (start n : ℕ) : Type 0 where
+  pub is-sound : sound frame ≡ true
+  pub starts : 14 + headerLength (body frame) ≡ start
+  pub long : payloadLength (body frame) ≡ n
 
-    go : (s w x y : Bool) (f : Fragment) → sound frame ≡ s
-        → cond (not s) Unfit (cond w (Whole (14 + headerLength (body frame)) (payloadLength (body frame))) (cond x Unfit (cond y Unfit (Part f)))) ≡ Whole start n
-        → start + n ≤ length frame
-    go false w x y f s e = let z : _≡_ {A = ℕ} 0 1 = cc in absurd (omega arith)
-    go true true x y f s e =
-        let a : 14 + headerLength (body frame) ≡ start = cc in
-        let b : payloadLength (body frame) ≡ n = cc in
-        omega (arith, within-frame frame s)
-    go true false x y f s e = absurd (fragment x y f e)
+pub whole-is : (frame : List ℕ) (start n : ℕ) → packetOf frame ≡ Whole start n → IsWhole frame start n
+unfolding packetOf
+whole-is frame start n e =
+    let one = second-arm (not (sound frame)) unfit-no-whole e in
+    by-test (isWhole (body frame))
+    (λ whole.
+    let same : Whole (14 + headerLength (body frame)) (payloadLength (body frame)) ≡ Whole start n = rw whole at (one .1) in
+    record { is-sound = not-false _ (one .0); starts = cc; long = cc })
+    (λ part.
+    let two = second-arm (not (goodLength (moreFragments (body frame)) (payloadLength (body frame)))) unfit-no-whole (rw part at (one .1)) in
+    let three = second-arm (not (leb (fragmentOffset (body frame) + payloadLength (body frame)) 65515)) unfit-no-whole (two .1) in
+    absurd (whole-no-part (sym (three .1))))
+
+-- so it lies in its frame too
+pub whole-fits : (frame : List ℕ) (start n : ℕ) → packetOf frame ≡ Whole start n → start + n ≤ length frame
+whole-fits frame start n e = let whole = whole-is frame start n e in omega (arith, whole .starts, whole .long, within-frame frame (whole .is-sound))

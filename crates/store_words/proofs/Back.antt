@@ -1,4 +1,4 @@
--- The words of a state are read as the state: nothing that fits its type is lost.
+-- The words of a state are read as the state: nothing that is in range is lost.
 use Prim.Native.Nat.{ℕ, _%_, _<_}
 use mathlib.Core.List.{[], _∷_}
 use mathlib.Core.Path.{_≡_, refl, ap}
@@ -7,10 +7,11 @@ use Rattle.packets.specs.declared.packet.Datagram.{Datagram}
 use Rattle.fragments.specs.declared.answer.End.the-variants.{Unknown, At}
 use Rattle.fragments.specs.declared.answer.State.{State}
 use Rattle.fragments.specs.declared.answer.State.the-variants.{Empty, Filling, Complete}
-use Rattle.store_words.specs.Words.{datagramIn, endIn, stateOf, laid, fillingWords, wordsOf, FitName, Fit}
+use Rattle.store_words.specs.Words.{datagramIn, endIn, stateOf, laid, fillingWords, wordsOf}
+use Rattle.store_words.specs.helpers.Range.{NameInRange, InRange}
 
 -- the low bits of a number that has no others
-name-back : (phase : ℕ) (d : Datagram) (end : ℕ) → FitName d → datagramIn (laid phase d end) ≡ d
+name-back : (phase : ℕ) (d : Datagram) (end : ℕ) → NameInRange d → datagramIn (laid phase d end) ≡ d
 unfolding datagramIn laid
 name-back phase d end fit =
     let p : d .protocol % 256 ≡ d .protocol = omega (arith, fit .0) in
@@ -25,20 +26,20 @@ empty-back : stateOf (0 ∷ 0 ∷ 0 ∷ 0 ∷ 0 ∷ 0 ∷ []) ≡ Empty
 unfolding stateOf
 empty-back = refl
 
-unknown-back : (d : Datagram) → FitName d → stateOf (laid 1 d 0) ≡ Filling d Unknown
+unknown-back : (d : Datagram) → NameInRange d → stateOf (laid 1 d 0) ≡ Filling d Unknown
 unfolding stateOf laid
 unknown-back d fit = ap (λ (x : Datagram). Filling x Unknown) (name-back 1 d 0 fit)
 
-known-back : (d : Datagram) (end : ℕ) → FitName d → end < 65536 → stateOf (laid 2 d end) ≡ Filling d (At end)
+known-back : (d : Datagram) (end : ℕ) → NameInRange d → end < 65536 → stateOf (laid 2 d end) ≡ Filling d (At end)
 unfolding stateOf laid
 known-back d end fit small = λ k. Filling (name-back 2 d end fit k) (At (end-back 2 d end small k))
 
-complete-back : (d : Datagram) (end : ℕ) → FitName d → end < 65536 → stateOf (laid 3 d end) ≡ Complete d end
+complete-back : (d : Datagram) (end : ℕ) → NameInRange d → end < 65536 → stateOf (laid 3 d end) ≡ Complete d end
 unfolding stateOf laid
 complete-back d end fit small = λ k. Complete (name-back 3 d end fit k) (end-back 3 d end small k)
 
--- so a state whose numbers fit their types comes back from its words
-pub state-back : (s : State) → Fit s → stateOf (wordsOf s) ≡ s
+-- so a state whose numbers are in range comes back from its words
+pub state-back : (s : State) → InRange s → stateOf (wordsOf s) ≡ s
 unfolding wordsOf fillingWords
 state-back Empty fit = empty-back
 state-back (Filling d Unknown) fit = unknown-back d (fit .0)

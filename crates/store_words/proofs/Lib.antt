@@ -1,3 +1,4 @@
 pub mod Back
-pub mod OneAnswer
-pub mod Standing
+pub mod Numbers
+pub mod Changing
+pub mod Placed

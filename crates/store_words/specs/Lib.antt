@@ -1,2 +1,3 @@
-pub mod Told
 pub mod Words
+pub mod Reports
+pub mod helpers

@@ -1,5 +1,5 @@
 -- A store's state as six words, for a host that has no enums: phase, source, target, protocol, id, end. Every value of the words is a state.
-use Prim.Native.Nat.{ℕ, _%_, _<_}
+use Prim.Native.Nat.{ℕ, _%_}
 use mathlib.Core.List.{List, [], _∷_}
 use lib.Dec.{eqb}
 use lib.ListN.{getD}
@@ -44,17 +44,3 @@ unfoldable pub wordsOf : State → List ℕ
 wordsOf Empty = 0 ∷ 0 ∷ 0 ∷ 0 ∷ 0 ∷ 0 ∷ []
 wordsOf (Filling d end) = fillingWords d end
 wordsOf (Complete d length) = laid 3 d length
-
--- the numbers of a datagram's name that have fewer bits than a word fit their types
-abbrev pub FitName : Datagram → Type 0
-FitName d = (d .protocol < 256) × (d .id < 65536)
-
-abbrev pub FitEnd : End → Type 0
-FitEnd Unknown = Unit
-FitEnd (At end) = end < 65536
-
--- and those of a state
-abbrev pub Fit : State → Type 0
-Fit Empty = Unit
-Fit (Filling d end) = FitName d × FitEnd end
-Fit (Complete d length) = FitName d × (length < 65536)

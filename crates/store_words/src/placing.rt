@@ -7,16 +7,15 @@ ghost use Rattle.wire.specs.Rfc791.{headerLength};
 ghost use Rattle.wire.specs.Rfc894.{body};
 ghost use mathlib.Core.Bool.{cond};
 ghost use Rattle.packets.specs.Packets.{payloadLength};
-ghost use Rattle.store_words.specs.Told.{placeOf, storedPlace};
+ghost use Rattle.store_words.specs.Reports.{placeOf, storedPlace};
 use fragments::Answer;
 use fragments::State;
 use fragments::Taken;
 use wire::bytes::u16be;
-use wire::ipv4::ip_hlen;
+use wire::ethernet;
+use wire::ipv4;
 
-const ETHERNET_HEADER: usize = 14;
-
-const TOTAL_LENGTH: usize = 16;
+const TOTAL_LENGTH: usize = ethernet::HEADER + ipv4::TOTAL_LENGTH;
 
 const NOWHERE: [usize; 2] = [0, 0];
 
@@ -41,9 +40,9 @@ pub fn place(taken: Taken, frame: &[u8], lent: usize) -> [usize; 2]
 fn in_frame(frame: &[u8]) -> [usize; 2]
     ensures { λ r. ⌜ r ≡ (14 + headerLength (body (now (frame .entry)))) ∷ payloadLength (body (now (frame .entry))) ∷ [] ⌝ }
 {
-    let header = ip_hlen(frame);
+    let header = ipv4::ip_hlen(frame);
     let total = u16be(frame, TOTAL_LENGTH) as usize;
-    let start = ETHERNET_HEADER + header;
+    let start = ethernet::HEADER + header;
     if total < header {
         return [start, 0];
     }

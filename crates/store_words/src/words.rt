@@ -1,7 +1,8 @@
 // A state in six words, there and back.
 ghost use mathlib.Core.Path.{_≡_};
 ghost use Prim.Native.Nat.{_<_};
-ghost use Rattle.store_words.specs.Words.{stateOf, wordsOf, fillingWords, laid, FitName, FitEnd};
+ghost use Rattle.store_words.specs.Words.{stateOf, wordsOf, fillingWords, laid};
+ghost use Rattle.store_words.specs.helpers.Range.{NameInRange, EndInRange};
 use fragments::Datagram;
 use fragments::End;
 use fragments::State;
@@ -58,7 +59,7 @@ pub fn words_of(state: State) -> [u32; 6]
 }
 
 fn filling(datagram: Datagram, end: End) -> [u32; 6]
-    ensures { λ r. ⌜ (r ≡ fillingWords datagram end) × FitName datagram × FitEnd end ⌝ }
+    ensures { λ r. ⌜ (r ≡ fillingWords datagram end) × NameInRange datagram × EndInRange end ⌝ }
 {
     match end {
         End::Unknown => lay(FILLING, datagram, 0),
@@ -67,7 +68,7 @@ fn filling(datagram: Datagram, end: End) -> [u32; 6]
 }
 
 fn lay(phase: u32, datagram: Datagram, end: u16) -> [u32; 6]
-    ensures { λ r. ⌜ (r ≡ laid phase datagram end) × FitName datagram × (end < 65536) ⌝ }
+    ensures { λ r. ⌜ (r ≡ laid phase datagram end) × NameInRange datagram × (end < 65536) ⌝ }
 {
     [
         phase,

@@ -2,7 +2,7 @@
 use Prim.Native.Nat.{ℕ}
 use mathlib.Core.Path.{subst, _∙_}
 use Rattle.bitmap.specs.Bitmap.{Marked}
-use Rattle.fragments.specs.Promises.{Settles}
+use Rattle.fragments.specs.helpers.Settling.{Settles}
 use Rattle.fragments.specs.Rules.{firstBlock, stopBlock}
 use Rattle.fragments.proofs.Storing.{copied, marked}
 use borrow.Author.Needs.{needs}

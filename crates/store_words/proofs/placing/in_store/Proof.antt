@@ -1,6 +1,6 @@
 -- `in_store` meets its contract, state by state.
 use mathlib.Core.Path.{refl}
-use Rattle.store_words.specs.Told.{storedPlace}
+use Rattle.store_words.specs.Reports.{storedPlace}
 use borrow.Author.Needs.{needs}
 use Rattle.store_words.proofs.placing.in_store.Statement.{statement}
 use Rattle.store_words.proofs.placing.in_store.Tie as tie

@@ -1,6 +1,6 @@
 -- `place` meets its contract, answer by answer.
 use mathlib.Core.Path.{refl}
-use Rattle.store_words.specs.Told.{placeOf}
+use Rattle.store_words.specs.Reports.{placeOf}
 use borrow.Author.Needs.{needs}
 use Rattle.store_words.proofs.placing.place.Statement.{statement}
 use Rattle.store_words.proofs.placing.place.Tie as tie

@@ -5,12 +5,13 @@ use Prim.Native.Nat.{ℕ}
 use Rattle.fragments.specs.declared.answer.State.{State}
 use Rattle.fragments.specs.declared.answer.State.the-variants.{Empty, Filling, Complete}
 use Rattle.store_words.proofs.Back.{state-back}
-use Rattle.store_words.specs.Words.{stateOf, wordsOf, Fit}
+use Rattle.store_words.specs.Words.{stateOf, wordsOf}
+use Rattle.store_words.specs.helpers.Range.{InRange}
 use borrow.Author.Needs.{needs}
 use Rattle.store_words.proofs.words.words_of.Statement.{statement}
 use Rattle.store_words.proofs.words.words_of.Tie as tie
 
-both : (words : List ℕ) (state : State) → words ≡ wordsOf state → Fit state → (words ≡ wordsOf state) × (stateOf words ≡ state)
+both : (words : List ℕ) (state : State) → words ≡ wordsOf state → InRange state → (words ≡ wordsOf state) × (stateOf words ≡ state)
 both words state e fit = (e, ap stateOf e ∙ state-back state fit)
 
 returns : tie.Need-returns

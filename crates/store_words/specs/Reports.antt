@@ -31,8 +31,8 @@ changes complete = true
 changes released = true
 changes (refused number) = false
 
--- The promise of telling what came of a call: its number; the words of the new state, or else the words exactly as they were; and that they are read as it.
-pub record Tells (words words′ : List ℕ) (taken : Taken) (number : ℕ) : Type 0 where
+-- The promise of reporting what came of a call: its number; the words of the new state, or else the words exactly as they were; and that they are read as it.
+pub record Reports (words words′ : List ℕ) (taken : Taken) (number : ℕ) : Type 0 where
   pub numbered : number ≡ numberOf (saidFor (taken .answer))
   pub written : words′ ≡ cond (changes (saidFor (taken .answer))) (wordsOf (taken .state)) words
   pub read : stateOf words′ ≡ cond (changes (saidFor (taken .answer))) (taken .state) (stateOf words)

@@ -1,14 +1,14 @@
-// What came of a call, told: the words where the state is a new one, and the number.
+// What came of a call, reported: the words where the state is a new one, and the number.
 ghost use mathlib.Core.Path.{_≡_};
-ghost use Rattle.store_words.specs.Told.{Tells};
+ghost use Rattle.store_words.specs.Reports.{Reports};
 ghost use Rattle.store_words.specs.Words.{stateOf, wordsOf};
 use crate::words::words_of;
 use fragments::Answer;
 use fragments::State;
 use fragments::Taken;
 
-pub fn tell(taken: Taken, words: &mut [u32; 6]) -> u32
-    ensures { λ r. ⌜ Tells (now (words .entry)) (now (words .exit)) taken r ⌝ }
+pub fn report(taken: Taken, words: &mut [u32; 6]) -> u32
+    ensures { λ r. ⌜ Reports (now (words .entry)) (now (words .exit)) taken r ⌝ }
 {
     let answer = taken.answer;
     let state = taken.state;

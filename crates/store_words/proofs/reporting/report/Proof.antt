@@ -1,10 +1,10 @@
--- `tell` meets its contract, answer by answer.
+-- `report` meets its contract, answer by answer.
 use mathlib.Core.Path.{refl}
 use Rattle.fragments.specs.Answer.{saidFor}
-use Rattle.store_words.specs.Told.{numberOf, changes}
+use Rattle.store_words.specs.Reports.{numberOf, changes}
 use borrow.Author.Needs.{needs}
-use Rattle.store_words.proofs.telling.tell.Statement.{statement}
-use Rattle.store_words.proofs.telling.tell.Tie as tie
+use Rattle.store_words.proofs.reporting.report.Statement.{statement}
+use Rattle.store_words.proofs.reporting.report.Tie as tie
 
 returns : tie.Need-returns
 unfolding numberOf changes saidFor
@@ -38,8 +38,8 @@ returns-8 : tie.Need-returns-8
 unfolding numberOf changes saidFor
 returns-8 c = rw (c .enum-told8 .given .1) (record { numbered = refl; written = refl; read = refl })
 
-pub tell-spec : {M : Type 1} → statement M
-tell-spec =
+pub report-spec : {M : Type 1} → statement M
+report-spec =
     tie.close
     (tie.spec (λ c. search needs) (λ c. search needs) (λ c κs. search needs) (λ c. search needs)
     (λ c κs. search needs) (λ c. search needs) (λ c κs. search needs) (λ c. search needs) (λ c. search needs)
