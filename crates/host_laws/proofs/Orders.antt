@@ -9,7 +9,7 @@ use Rattle.fragment_laws.specs.Calls.{Store, Sized, Vacant, releasing, Call}
 use Rattle.fragment_laws.specs.Trains.{Permuted, Train, takings, All, Covers, byteFor}
 use Rattle.packets.specs.declared.packet.Datagram.{Datagram}
 use Rattle.host_laws.proofs.AsCore.{coreCalls, as-core, same-asked, same-left, numbers-told, keeps, number-of, state-of}
-use Rattle.host_laws.specs.Made.{Lent, storeOf, Made, KeepsIt, Makes, asksOf, payloadIn, ArrivedThere}
+use Rattle.host_laws.specs.Made.{Lent, storeOf, Made, PromisedIt, Makes, asksOf, payloadIn, ArrivedThere}
 use Rattle.store_words.specs.Reports.{numberOf}
 
 pub every-order-there : (datagram : Datagram) (end : ℕ) (frames order : List (List ℕ)) (lent : Lent) (made : List Made)
@@ -28,7 +28,7 @@ every-order-there datagram end frames order lent made train p v m e =
     }
 
 -- whatever the memory holds that is lent at its size
-pub released-there : (lent : Lent) (made : Made) → Sized (storeOf lent) → KeepsIt releasing lent made → (made .number ≡ 23) × Vacant (storeOf (made .left))
+pub released-there : (lent : Lent) (made : Made) → Sized (storeOf lent) → PromisedIt releasing lent made → (made .number ≡ 23) × Vacant (storeOf (made .left))
 unfolding numberOf
 released-there lent made sized k =
     let call : Call = record { who = 0; asked = releasing; taken = k .0 .taken; bytes = made .left .bytes; bits = made .left .bits } in

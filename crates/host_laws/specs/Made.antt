@@ -3,6 +3,7 @@ use Prim.Native.Nat.{ℕ}
 use mathlib.Core.Path.{_≡_}
 use mathlib.Core.List.{List, [], _∷_}
 use lib.ListN.{length, getD}
+use Rattle.base.specs.Runs as every
 use Rattle.fragment_laws.specs.Calls.{Store, Asked, taking, releasing, Of64Bits}
 use Rattle.fragment_laws.specs.Trains.{All, Covers, byteFor}
 use Rattle.fragments.specs.Promises.{storedPayload}
@@ -28,30 +29,31 @@ pub record Made : Type 0 where
   pub number : ℕ
   pub place : List ℕ
 
--- it kept the promise of the exported function (a release tells no place, and is lent the bytes to look at)
-abbrev pub KeepsIt : Asked → Lent → Made → Type 0
-KeepsIt (taking frame) lent made =
+-- what the exported function promises of what was asked (a release tells no place, and is lent the bytes to look at)
+abbrev pub PromisedIt : Asked → Lent → Made → Type 0
+PromisedIt (taking frame) lent made =
     Took (lent .words) frame (lent .bytes) (lent .bits) (made .left .words) (made .left .bytes) (made .left .bits) (made .place) (made .number)
     × Of64Bits (made .left .bits)
-KeepsIt releasing lent made =
+PromisedIt releasing lent made =
     Freed (lent .words) (lent .bytes) (lent .bits) (made .left .words) (made .left .bits) (made .number)
     × (made .left .bytes ≡ lent .bytes)
     × Of64Bits (made .left .bits)
 
+-- a call kept it
+abbrev pub KeepsIt : Lent → Made → Type 0
+KeepsIt lent made = PromisedIt (made .asked) lent made
+
 -- calls one after the other
 abbrev pub Makes : Lent → List Made → Type 0
-Makes lent [] = Unit
-Makes lent (made ∷ rest) = KeepsIt (made .asked) lent made × Makes (made .left) rest
+Makes = every.Runs KeepsIt (λ (made : Made). made .left)
 
 -- what they leave
 abbrev pub lastLent : Lent → List Made → Lent
-lastLent lent [] = lent
-lastLent lent (made ∷ rest) = lastLent (made .left) rest
+lastLent = every.leaves KeepsIt (λ (made : Made). made .left)
 
 -- what was asked in them
 abbrev pub asksOf : List Made → List Asked
-asksOf [] = []
-asksOf (made ∷ rest) = made .asked ∷ asksOf rest
+asksOf = every.each (λ (made : Made). made .asked)
 
 -- the last call tells 22, complete, and the earlier ones 21, stored
 abbrev pub Told21Then22 : List Made → Type 0
