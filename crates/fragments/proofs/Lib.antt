@@ -1,4 +1,3 @@
-pub mod Fitting
 pub mod Ruled
-pub mod Slices
 pub mod Storing
+pub mod OneAnswer

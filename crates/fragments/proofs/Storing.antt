@@ -8,18 +8,19 @@ use borrow.Author.Tests.{eqb-true, le-leb}
 use lib.Dec.{eqb}
 use lib.ListN.{length, take, drop, length-drop}
 use lib.Seq.{length-take-le}
-use Rattle.blocks.specs.Bitmap.{bit, having, Marked}
+use Rattle.bitmap.specs.Bitmap.{bit, having, Marked}
 use Rattle.base.specs.Bytes.{part}
 use Rattle.base.specs.Buffer.{put, putIfFits}
-use Rattle.fragments.specs.Rules.{ofSize, blocksOf, endOf, firstBlock, stopBlock}
-use Rattle.fragments.specs.declared.packet.Fragment.{Fragment}
+use Rattle.fragments.specs.Rules.{ofSize, blocksOf, firstBlock, stopBlock}
+use Rattle.packets.specs.Packets.{endOf}
+use Rattle.packets.specs.declared.packet.Fragment.{Fragment}
 
 -- a store of the right size
-pub of-size : (bytes words : ℕ) → ofSize bytes words ≡ true → (bytes ≡ 65515) × (words ≡ 128)
+pub of-size : (bytes bits : ℕ) → ofSize bytes bits ≡ true → (bytes ≡ 65515) × (bits ≡ 128)
 unfolding ofSize
-of-size bytes words e =
-    let both = and-eq-true-iff (eqb bytes 65515) (eqb words 128) .0 e in
-    (eqb-true bytes 65515 (both .0), eqb-true words 128 (both .1))
+of-size bytes bits e =
+    let both = and-eq-true-iff (eqb bytes 65515) (eqb bits 128) .0 e in
+    (eqb-true bytes 65515 (both .0), eqb-true bits 128 (both .1))
 
 -- the payload as code takes it out of the frame, copied to its place
 pub copied : (f : Fragment) (frame bytes : List ℕ) → f .start + f .length ≤ length frame → endOf f ≤ 65515 → length bytes ≡ 65515
@@ -32,11 +33,11 @@ copied f frame bytes inside short size =
     ∙ ap (λ (t : Bool). cond t (put (f .offset) payload bytes) bytes) (le-leb (f .offset + length payload) (length bytes) (omega (arith, long)))
 
 -- the blocks that are there once the fragment's are marked
-pub marked : (f : Fragment) (words words′ : List ℕ) → endOf f ≤ 65515 → length words ≡ 128 → Marked (firstBlock f) (stopBlock f) words words′
-    → bit words′ ≡ having (bit words) (firstBlock f) (stopBlock f)
+pub marked : (f : Fragment) (bits bits′ : List ℕ) → endOf f ≤ 65515 → length bits ≡ 128 → Marked (firstBlock f) (stopBlock f) bits bits′
+    → bit bits′ ≡ having (bit bits) (firstBlock f) (stopBlock f)
 unfolding blocksOf
-marked f words words′ short size m =
+marked f bits bits′ short size m =
     fun-ext (λ b.
     m .bits b
-    ∙ ap (λ (t : Bool). cond t (having (bit words) (firstBlock f) (stopBlock f) b) (bit words b))
-    (le-leb (stopBlock f) (length words * 64) (omega (arith, short, size))))
+    ∙ ap (λ (t : Bool). cond t (having (bit bits) (firstBlock f) (stopBlock f) b) (bit bits b))
+    (le-leb (stopBlock f) (length bits * 64) (omega (arith, short, size))))

@@ -13,12 +13,12 @@ pub data Said : Type 0 where
   refused : (number : ℕ) → Said
 
 -- what the document says for an answer
-unfoldable pub paper : Answer → Said
-paper Passed = passed
-paper Stored = stored
-paper Complete = complete
-paper Released = released
-paper Unfit = refused 10
-paper Held = refused 11
-paper Overlap = refused 12
-paper WrongEnd = refused 13
+unfoldable pub saidFor : Answer → Said
+saidFor Passed = passed
+saidFor Stored = stored
+saidFor Complete = complete
+saidFor Released = released
+saidFor Unfit = refused 10
+saidFor Held = refused 11
+saidFor Overlap = refused 12
+saidFor WrongEnd = refused 13

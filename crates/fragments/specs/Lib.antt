@@ -1,4 +1,4 @@
 pub mod Answer
-pub mod Rfc791
 pub mod Rules
 pub mod Promises
+pub mod helpers

@@ -4,51 +4,46 @@ use mathlib.Core.Path.{_≡_}
 use mathlib.Core.List.{List, []}
 use lib.Dec.{leb}
 use lib.ListN.{length, take, replicate}
-use Rattle.blocks.specs.Bitmap.{bit, Marked}
+use Rattle.bitmap.specs.Bitmap.{bit, Marked}
 use Rattle.base.specs.Bytes.{part}
 use Rattle.base.specs.Buffer.{put}
 use mathlib.Core.Bool.{cond}
-use Rattle.fragments.specs.Answer.{released, refused, paper}
-use Rattle.fragments.specs.Rfc791.{packetOf}
-use Rattle.fragments.specs.Rules.{ofSize, ruling, settled, outcomeOf, firstBlock, stopBlock}
+use Rattle.fragments.specs.Answer.{released, refused, saidFor}
+use Rattle.packets.specs.Packets.{packetOf}
+use Rattle.fragments.specs.Rules.{ofSize, ruling, outcomeOf, firstBlock, stopBlock}
 use Rattle.fragments.specs.declared.answer.Answer.{Answer}
 use Rattle.fragments.specs.declared.answer.Answer.the-variants as Answer
-use Rattle.fragments.specs.declared.answer.Datagram.{Datagram}
+use Rattle.packets.specs.declared.packet.Datagram.{Datagram}
 use Rattle.fragments.specs.declared.answer.End.{End}
 use Rattle.fragments.specs.declared.answer.State.{State}
 use Rattle.fragments.specs.declared.answer.State.the-variants.{Empty, Filling, Complete}
 use Rattle.fragments.specs.declared.answer.Taken.{Taken}
-use Rattle.fragments.specs.declared.packet.Packet.{Packet}
-use Rattle.fragments.specs.declared.packet.Packet.the-variants.{Unfit, Whole, Part}
+use Rattle.packets.specs.declared.packet.Packet.{Packet}
+use Rattle.packets.specs.declared.packet.Packet.the-variants.{Unfit, Whole, Part}
 use Rattle.fragments.specs.declared.ruling.Ruling.{Ruling}
-use Rattle.fragments.specs.declared.ruling.Ruling.the-variants.{Refuse, Pass, Store}
+use Rattle.fragments.specs.declared.ruling.Ruling.the-variants.{Refuse, Pass, Write}
 
 -- the store's bytes and bits are as they were
-pub record Untouched (bytes words bytes′ words′ : List ℕ) : Type 0 where
+pub record Untouched (bytes bits bytes′ bits′ : List ℕ) : Type 0 where
   pub kept-bytes : bytes′ ≡ bytes
-  pub kept-bits : words′ ≡ words
+  pub kept-bits : bits′ ≡ bits
 
 -- What a ruling does to the store: nothing, or the fragment's payload stands at its place and its blocks are marked.
-abbrev pub Effect : Ruling → (frame bytes words bytes′ words′ : List ℕ) → Type 0
-Effect (Refuse answer) frame bytes words bytes′ words′ = Untouched bytes words bytes′ words′
-Effect Pass frame bytes words bytes′ words′ = Untouched bytes words bytes′ words′
-Effect (Store f end) frame bytes words bytes′ words′ =
-    (bytes′ ≡ put (f .offset) (part frame (f .start) (f .length)) bytes) × Marked (firstBlock f) (stopBlock f) words words′
-
--- the answer once blocks are there, and the state
-pub record Settles (datagram : Datagram) (end : End) (there : ℕ → ℕ) (taken : Taken) : Type 0 where
-  pub answers : paper (taken .answer) ≡ settled datagram end there .said
-  pub next : taken .state ≡ settled datagram end there .state
+abbrev pub Effect : Ruling → (frame bytes bits bytes′ bits′ : List ℕ) → Type 0
+Effect (Refuse answer) frame bytes bits bytes′ bits′ = Untouched bytes bits bytes′ bits′
+Effect Pass frame bytes bits bytes′ bits′ = Untouched bytes bits bytes′ bits′
+Effect (Write f end) frame bytes bits bytes′ bits′ =
+    (bytes′ ≡ put (f .offset) (part frame (f .start) (f .length)) bytes) × Marked (firstBlock f) (stopBlock f) bits bits′
 
 -- A ruling is carried out: what is answered, the state, and the store.
-pub record Does (ruling : Ruling) (state : State) (frame bytes words bytes′ words′ : List ℕ) (taken : Taken) : Type 0 where
-  pub answers : paper (taken .answer) ≡ outcomeOf state (bit words) ruling .said
-  pub next : taken .state ≡ outcomeOf state (bit words) ruling .state
-  pub store : Effect ruling frame bytes words bytes′ words′
+pub record Does (ruling : Ruling) (state : State) (frame bytes bits bytes′ bits′ : List ℕ) (taken : Taken) : Type 0 where
+  pub answers : saidFor (taken .answer) ≡ outcomeOf state (bit bits) ruling .said
+  pub next : taken .state ≡ outcomeOf state (bit bits) ruling .state
+  pub store : Effect ruling frame bytes bits bytes′ bits′
 
 -- the call that takes a frame
-abbrev pub Takes : State → (frame bytes words bytes′ words′ : List ℕ) → Taken → Type 0
-Takes state frame bytes words bytes′ words′ taken = Does (ruling state frame (length bytes) words) state frame bytes words bytes′ words′ taken
+abbrev pub Takes : State → (frame bytes bits bytes′ bits′ : List ℕ) → Taken → Type 0
+Takes state frame bytes bits bytes′ bits′ taken = Does (ruling state frame (length bytes) bits) state frame bytes bits bytes′ bits′ taken
 
 -- the payload of a whole datagram, in its frame
 unfoldable pub wholePayload : (frame : List ℕ) → Packet → List ℕ
@@ -74,7 +69,7 @@ payloadOf Answer.Overlap state frame bytes = []
 payloadOf Answer.WrongEnd state frame bytes = []
 
 -- "a release at any time empties the store for the next, or gets 10 where it is lent at another size": no bit is left
-pub record Releases (state : State) (bytes words words′ : List ℕ) (taken : Taken) : Type 0 where
-  pub answers : paper (taken .answer) ≡ cond (ofSize (length bytes) (length words)) released (refused 10)
-  pub next : taken .state ≡ cond (ofSize (length bytes) (length words)) Empty state
-  pub bits : words′ ≡ cond (ofSize (length bytes) (length words)) (replicate 128 0) words
+pub record Releases (state : State) (bytes bits bits′ : List ℕ) (taken : Taken) : Type 0 where
+  pub answers : saidFor (taken .answer) ≡ cond (ofSize (length bytes) (length bits)) released (refused 10)
+  pub next : taken .state ≡ cond (ofSize (length bytes) (length bits)) Empty state
+  pub cleared : bits′ ≡ cond (ofSize (length bytes) (length bits)) (replicate 128 0) bits

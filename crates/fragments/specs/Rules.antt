@@ -4,36 +4,33 @@ use mathlib.Core.Bool.{Bool, true, false, _&&_, _||_, not, cond}
 use mathlib.Core.List.{List}
 use lib.Dec.{eqb, ltb}
 use lib.ListN.{length}
-use Rattle.blocks.specs.Bitmap.{bit, count, having}
-use Rattle.fragments.specs.Answer.{Said, passed, stored, complete, paper}
-use Rattle.fragments.specs.Rfc791.{packetOf}
+use Rattle.bitmap.specs.Bitmap.{bit, count, having}
+use Rattle.fragments.specs.Answer.{Said, passed, stored, complete, saidFor}
+use Rattle.packets.specs.Packets.{packetOf, endOf}
 use Rattle.fragments.specs.declared.answer.Answer.{Answer}
 use Rattle.fragments.specs.declared.answer.Answer.the-variants as Answer
-use Rattle.fragments.specs.declared.answer.Datagram.{Datagram}
+use Rattle.packets.specs.declared.packet.Datagram.{Datagram}
 use Rattle.fragments.specs.declared.answer.End.{End}
 use Rattle.fragments.specs.declared.answer.End.the-variants.{Unknown, At}
 use Rattle.fragments.specs.declared.answer.State.{State}
 use Rattle.fragments.specs.declared.answer.State.the-variants.{Empty, Filling, Complete}
-use Rattle.fragments.specs.declared.packet.Fragment.{Fragment}
-use Rattle.fragments.specs.declared.packet.Packet.{Packet}
-use Rattle.fragments.specs.declared.packet.Packet.the-variants.{Unfit, Whole, Part}
+use Rattle.packets.specs.declared.packet.Fragment.{Fragment}
+use Rattle.packets.specs.declared.packet.Packet.{Packet}
+use Rattle.packets.specs.declared.packet.Packet.the-variants.{Unfit, Whole, Part}
 use Rattle.fragments.specs.declared.ruling.Ruling.{Ruling}
-use Rattle.fragments.specs.declared.ruling.Ruling.the-variants.{Refuse, Pass, Store}
+use Rattle.fragments.specs.declared.ruling.Ruling.the-variants.{Refuse, Pass, Write}
 
 -- "65,515 payload bytes, and 128 words of 64 bits"
-unfoldable pub ofSize : (bytes words : ℕ) → Bool
-ofSize bytes words = eqb bytes 65515 && eqb words 128
+unfoldable pub ofSize : (bytes bits : ℕ) → Bool
+ofSize bytes bits = eqb bytes 65515 && eqb bits 128
 
 -- how many blocks of eight bytes the first `n` bytes touch
 unfoldable pub blocksOf : (n : ℕ) → ℕ
 blocksOf n = (n + 7) / 8
 
--- a fragment's first block, the one behind its last, and the place where its bytes end
+-- a fragment's first block, and the one behind its last
 abbrev pub firstBlock : Fragment → ℕ
 firstBlock f = f .offset / 8
-
-abbrev pub endOf : Fragment → ℕ
-endOf f = f .offset + f .length
 
 abbrev pub stopBlock : Fragment → ℕ
 stopBlock f = blocksOf (endOf f)
@@ -73,7 +70,7 @@ partRuling state there f =
     cond (isHeld state (f .datagram)) (Refuse Answer.Held)
     (cond (overlaps f there) (Refuse Answer.Overlap)
     (cond (wrongEnd f (knownEnd state) there) (Refuse Answer.WrongEnd)
-    (Store f (endWith f (knownEnd state)))))
+    (Write f (endWith f (knownEnd state)))))
 
 -- "A frame with no fragmentation passes by without touching the store"
 unfoldable pub packetRuling : State → (there : ℕ → ℕ) → Packet → Ruling
@@ -82,10 +79,10 @@ packetRuling state there (Whole start length) = Pass
 packetRuling state there (Part f) = partRuling state there f
 
 -- "Refusals, in this order .. 10 a store lent at another size, a frame .."
-unfoldable pub ruling : State → (frame : List ℕ) (bytes : ℕ) (words : List ℕ) → Ruling
-ruling state frame bytes words =
-    cond (not (ofSize bytes (length words))) (Refuse Answer.Unfit)
-    (packetRuling state (bit words) (packetOf frame))
+unfoldable pub ruling : State → (frame : List ℕ) (bytes : ℕ) (bits : List ℕ) → Ruling
+ruling state frame bytes bits =
+    cond (not (ofSize bytes (length bits))) (Refuse Answer.Unfit)
+    (packetRuling state (bit bits) (packetOf frame))
 
 -- What is to come of a call: what it says, and the state.
 pub record Outcome : Type 0 where
@@ -101,6 +98,6 @@ settled d (At end) there =
 
 -- what comes of a ruling
 unfoldable pub outcomeOf : State → (there : ℕ → ℕ) → Ruling → Outcome
-outcomeOf state there (Refuse answer) = record { said = paper answer; state = state }
+outcomeOf state there (Refuse answer) = record { said = saidFor answer; state = state }
 outcomeOf state there Pass = record { said = passed; state = state }
-outcomeOf state there (Store f end) = settled (f .datagram) end (having there (firstBlock f) (stopBlock f))
+outcomeOf state there (Write f end) = settled (f .datagram) end (having there (firstBlock f) (stopBlock f))

@@ -1,12 +1,5 @@
 // What a store holds, beside its bytes and bits, and what a call answers.
-
-// A datagram's name: RFC 791, section 3.2.
-pub struct Datagram {
-    pub source: u32,
-    pub target: u32,
-    pub protocol: u8,
-    pub id: u16,
-}
+use packets::Datagram;
 
 // Where the datagram's payload ends, once its last fragment has come.
 pub enum End {

@@ -4,15 +4,14 @@
 // state get an answer. A refusal leaves bytes, bits and state as they were. A new store is emptied by
 // `release`, whatever it holds.
 mod answer;
-mod packet;
 mod ruling;
 mod store;
 
 pub use answer::Answer;
-pub use answer::Datagram;
 pub use answer::End;
 pub use answer::State;
 pub use answer::Taken;
+pub use packets::Datagram;
 pub use store::payload;
 pub use store::release;
 pub use store::take;

@@ -2,27 +2,29 @@
 // line. All that changes the store stands in store.rt.
 ghost use mathlib.Core.Path.{_≡_};
 ghost use Prim.Native.Nat.{_≤_, _<_};
-ghost use Rattle.blocks.specs.Bitmap.{bit};
-ghost use Rattle.fragments.specs.Rules.{ruling, partRuling, isHeld, sameDatagram, overlaps, knownEnd, wrongEnd, endWith, endOf, ofSize, blocksOf};
+ghost use Rattle.bitmap.specs.Bitmap.{bit};
+ghost use Rattle.fragments.specs.Rules.{ruling, partRuling, isHeld, sameDatagram, overlaps, knownEnd, wrongEnd, endWith, ofSize, blocksOf};
+ghost use Rattle.packets.specs.Packets.{endOf};
 use crate::answer::Answer;
-use crate::answer::Datagram;
 use crate::answer::End;
 use crate::answer::State;
-use crate::packet::Fragment;
-use crate::packet::MOST_PAYLOAD;
-use crate::packet::Packet;
-use crate::packet::read;
+use packets::Datagram;
+use packets::Fragment;
+use packets::Packet;
+use packets::read;
+use wire::ipv4;
 
-const WORDS: usize = 128;
+// The numbers of 64 bits that a bitmap is lent as, and the blocks that have a bit in them.
+const BITMAP: usize = 128;
 
-const BLOCKS: usize = 128 * 64;
+const BLOCKS: usize = BITMAP * 64;
 
 pub const BLOCK: usize = 8;
 
 pub enum Ruling {
     Refuse(Answer),
     Pass,
-    Store(Fragment, End),
+    Write(Fragment, End),
 }
 
 // What is to be done with `frame`, where `bytes` of the store are lent.
@@ -48,29 +50,27 @@ fn rule_part(state: State, fragment: Fragment, bits: &[u64]) -> Ruling
     requires { ⌜ endOf fragment ≤ 65515 ⌝ }
     ensures { λ r. ⌜ r ≡ partRuling state (bit (now (bits .entry))) fragment ⌝ }
 {
+    let end = known_end(state);
     if is_held(state, fragment.datagram) {
         return Ruling::Refuse(Answer::Held);
     }
-    let end = known_end(state);
-    let overlapping = has_block(fragment, bits);
-    let wrong_end = has_wrong_end(fragment, end, bits);
-    if overlapping {
+    if has_block(fragment, bits) {
         return Ruling::Refuse(Answer::Overlap);
     }
-    if wrong_end {
+    if has_wrong_end(fragment, end, bits) {
         return Ruling::Refuse(Answer::WrongEnd);
     }
-    Ruling::Store(fragment, end_with(fragment, end))
+    Ruling::Write(fragment, end_with(fragment, end))
 }
 
 // Whether the store is lent at its size: room for the longest payload, and a bit for each of its blocks.
-pub fn is_of_size(bytes: usize, words: usize) -> bool
-    ensures { λ r. ⌜ r ≡ ofSize bytes words ⌝ }
+pub fn is_of_size(bytes: usize, bits: usize) -> bool
+    ensures { λ r. ⌜ r ≡ ofSize bytes bits ⌝ }
 {
-    if bytes != MOST_PAYLOAD {
+    if bytes != ipv4::PAYLOAD_LIMIT {
         return false;
     }
-    words == WORDS
+    bits == BITMAP
 }
 
 // How many blocks of eight bytes the first `n` bytes touch.
@@ -120,7 +120,7 @@ fn has_block(fragment: Fragment, bits: &[u64]) -> bool
 {
     let first = fragment.offset / BLOCK;
     let stop = blocks_of(fragment.offset + fragment.length);
-    blocks::count(bits, first, stop) != 0
+    bitmap::count(bits, first, stop) != 0
 }
 
 // The end, as far as the store knows it.
@@ -154,7 +154,7 @@ fn has_wrong_end(fragment: Fragment, end: End, bits: &[u64]) -> bool
             if !fragment.last {
                 return false;
             }
-            blocks::count(bits, blocks_of(stop), BLOCKS) != 0
+            bitmap::count(bits, blocks_of(stop), BLOCKS) != 0
         }
     }
 }

@@ -5,24 +5,26 @@ ghost use mathlib.Core.List.{[]};
 ghost use lib.Dec.{leb};
 ghost use lib.ListN.{length, take};
 ghost use mathlib.Core.Bool.{cond};
-ghost use Rattle.blocks.specs.Bitmap.{bit, having};
-ghost use Rattle.fragments.specs.Rfc791.{packetOf};
-ghost use Rattle.fragments.specs.Rules.{endOf, firstBlock, stopBlock};
-ghost use Rattle.fragments.specs.Promises.{Takes, Effect, Settles, Releases, wholePayload, storedPayload, payloadOf};
+ghost use Rattle.bitmap.specs.Bitmap.{bit, having};
+ghost use Rattle.packets.specs.Packets.{packetOf};
+ghost use Rattle.fragments.specs.Rules.{firstBlock, stopBlock};
+ghost use Rattle.packets.specs.Packets.{endOf};
+ghost use Rattle.fragments.specs.helpers.Settling.{Settles};
+ghost use Rattle.fragments.specs.Promises.{Takes, Effect, Releases, wholePayload, storedPayload, payloadOf};
 use crate::answer::Answer;
-use crate::answer::Datagram;
 use crate::answer::End;
 use crate::answer::State;
 use crate::answer::Taken;
-use crate::packet::Fragment;
-use crate::packet::Packet;
-use crate::packet::read;
 use crate::ruling::BLOCK;
 use crate::ruling::Ruling;
 use crate::ruling::blocks_of;
 use crate::ruling::is_of_size;
 use crate::ruling::rule;
 use base::put;
+use packets::Datagram;
+use packets::Fragment;
+use packets::Packet;
+use packets::read;
 
 // Takes a guest's frame into its store.
 pub fn take(state: State, frame: &[u8], bytes: &mut [u8], bits: &mut [u64]) -> Taken
@@ -35,23 +37,23 @@ pub fn take(state: State, frame: &[u8], bytes: &mut [u8], bits: &mut [u64]) -> T
             answer: Answer::Passed,
             state,
         },
-        Ruling::Store(fragment, end) => store(fragment, end, frame, bytes, bits),
+        Ruling::Write(fragment, end) => write(fragment, end, frame, bytes, bits),
     }
 }
 
 // The fragment's payload is copied to its place, and its blocks are marked.
-fn store(fragment: Fragment, end: End, frame: &[u8], bytes: &mut [u8], bits: &mut [u64]) -> Taken
+fn write(fragment: Fragment, end: End, frame: &[u8], bytes: &mut [u8], bits: &mut [u64]) -> Taken
     requires { ⌜ fragment .start + fragment .length ≤ length (now frame) ⌝ }
     requires { ⌜ endOf fragment ≤ 65515 ⌝ }
     requires { ⌜ (length (now bytes) ≡ 65515) × (length (now bits) ≡ 128) ⌝ }
     ensures { λ r. ⌜ Settles (fragment .datagram) end (having (bit (now (bits .entry))) (firstBlock fragment) (stopBlock fragment)) r ⌝ }
-    ensures { λ _. ⌜ Effect (Ruling.Store fragment end) (now (frame .entry)) (now (bytes .entry)) (now (bits .entry)) (now (bytes .exit)) (now (bits .exit)) ⌝ }
+    ensures { λ _. ⌜ Effect (Ruling.Write fragment end) (now (frame .entry)) (now (bytes .entry)) (now (bits .entry)) (now (bytes .exit)) (now (bits .exit)) ⌝ }
 {
     let start = fragment.start;
     let stop = start + fragment.length;
     put(bytes, fragment.offset, &frame[start..stop]);
     let first = fragment.offset / BLOCK;
-    blocks::mark(bits, first, blocks_of(fragment.offset + fragment.length));
+    bitmap::mark(bits, first, blocks_of(fragment.offset + fragment.length));
     settle(fragment.datagram, end, bits)
 }
 
@@ -62,7 +64,7 @@ fn settle(datagram: Datagram, end: End, bits: &[u64]) -> Taken
     match end {
         End::At(known) => {
             let blocks = blocks_of(known as usize);
-            if blocks::count(bits, 0, blocks) == blocks {
+            if bitmap::count(bits, 0, blocks) == blocks {
                 return Taken {
                     answer: Answer::Complete,
                     state: State::Complete {
@@ -157,7 +159,7 @@ pub fn release(state: State, bytes: &[u8], bits: &mut [u64]) -> Taken
             state,
         };
     }
-    blocks::clear(bits);
+    bitmap::clear(bits);
     Taken {
         answer: Answer::Released,
         state: State::Empty,

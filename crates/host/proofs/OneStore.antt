@@ -3,21 +3,21 @@ use Prim.Native.Nat.{ℕ}
 use mathlib.Core.List.{List}
 use mathlib.Core.Path.{_≡_, ap, ap₂, sym, _∙_}
 use lib.ListN.{length}
-use Rattle.blocks.specs.Bitmap.{bit}
+use Rattle.bitmap.specs.Bitmap.{bit}
 use mathlib.Core.Bool.{cond}
-use Rattle.fragments.specs.Answer.{paper}
+use Rattle.fragments.specs.Answer.{saidFor}
 use Rattle.fragments.specs.Rules.{ruling}
 use Rattle.fragments.specs.declared.answer.Taken.{Taken}
 use Rattle.host.specs.Reassembly.{Took, Freed}
-use Rattle.states.proofs.OneAnswer.{one-taken, one-released, one-effect}
-use Rattle.states.specs.Told.{Tells, numberOf, changes, placeOf}
-use Rattle.states.specs.Words.{stateOf, wordsOf}
+use Rattle.fragments.proofs.OneAnswer.{one-taken, one-released, one-effect}
+use Rattle.store_words.specs.Reports.{Reports, numberOf, changes, placeOf}
+use Rattle.store_words.specs.Words.{stateOf, wordsOf}
 
 -- what is told of one answer
-same-telling : {words words₁ words₂ : List ℕ} {n₁ n₂ : ℕ} {t u : Taken} → t ≡ u → Tells words words₁ t n₁ → Tells words words₂ u n₂ → (n₁ ≡ n₂) × (words₁ ≡ words₂)
+same-telling : {words words₁ words₂ : List ℕ} {n₁ n₂ : ℕ} {t u : Taken} → t ≡ u → Reports words words₁ t n₁ → Reports words words₂ u n₂ → (n₁ ≡ n₂) × (words₁ ≡ words₂)
 same-telling {words} e s r = (
-  s .numbered ∙ ap (λ (x : Taken). numberOf (paper (x .answer))) e ∙ sym (r .numbered),
-  s .written ∙ ap (λ (x : Taken). cond (changes (paper (x .answer))) (wordsOf (x .state)) words) e ∙ sym (r .written),
+  s .numbered ∙ ap (λ (x : Taken). numberOf (saidFor (x .answer))) e ∙ sym (r .numbered),
+  s .written ∙ ap (λ (x : Taken). cond (changes (saidFor (x .answer))) (wordsOf (x .state)) words) e ∙ sym (r .written),
 )
 
 pub one-taking : (words frame bytes bits words₁ bytes₁ bits₁ place₁ words₂ bytes₂ bits₂ place₂ : List ℕ) (n₁ n₂ : ℕ)
@@ -35,4 +35,4 @@ pub one-release : (words bytes bits words₁ bits₁ words₂ bits₂ : List ℕ
     → Freed words bytes bits words₁ bits₁ n₁ → Freed words bytes bits words₂ bits₂ n₂
     → ((n₁ ≡ n₂) × (words₁ ≡ words₂)) × (bits₁ ≡ bits₂)
 one-release words bytes bits words₁ bits₁ words₂ bits₂ n₁ n₂ f g =
-    (same-telling (one-released (f .releases) (g .releases)) (f .tells) (g .tells), f .releases .bits ∙ sym (g .releases .bits))
+    (same-telling (one-released (f .releases) (g .releases)) (f .tells) (g .tells), f .releases .cleared ∙ sym (g .releases .cleared))

@@ -8,12 +8,13 @@ use Rattle.fragments.specs.Promises.{Takes, Releases}
 use Rattle.fragments.specs.declared.answer.State.{State}
 use Rattle.fragments.specs.declared.answer.Taken.{Taken}
 use Rattle.host.specs.Reassembly.{Took, Freed}
-use Rattle.states.proofs.Standing.{payload-stands, read-as, released-as}
-use Rattle.states.specs.Told.{Tells, placeOf, placedIn}
-use Rattle.states.specs.Words.{stateOf}
+use Rattle.store_words.proofs.Changing.{read-as, released-as}
+use Rattle.store_words.proofs.Placed.{payload-stands}
+use Rattle.store_words.specs.Reports.{Reports, placeOf, placedIn}
+use Rattle.store_words.specs.Words.{stateOf}
 
 pub took-of : {words frame bytes bits words′ bytes′ bits′ place : List ℕ} {number : ℕ} {state : State} (taken : Taken)
-    → Tells words words′ taken number → state ≡ stateOf words → Takes state frame bytes bits bytes′ bits′ taken
+    → Reports words words′ taken number → state ≡ stateOf words → Takes state frame bytes bits bytes′ bits′ taken
     → place ≡ placeOf (taken .answer) (taken .state) frame (length bytes′)
     → Took words frame bytes bits words′ bytes′ bits′ place number
 took-of {words} {frame} {bytes} {bits} {words′} {bytes′} {bits′} {place} {number} {state} taken s e t p =
@@ -30,7 +31,7 @@ took-of {words} {frame} {bytes} {bits} {words′} {bytes′} {bits′} {place} {
     }
 
 pub freed-of : {words bytes bits words′ bits′ : List ℕ} {number : ℕ} {state : State} (taken : Taken)
-    → Tells words words′ taken number → state ≡ stateOf words → Releases state bytes bits bits′ taken → Freed words bytes bits words′ bits′ number
+    → Reports words words′ taken number → state ≡ stateOf words → Releases state bytes bits bits′ taken → Freed words bytes bits words′ bits′ number
 freed-of {words} {bytes} {bits} {words′} {bits′} {number} {state} taken s e r =
     let releases : Releases (stateOf words) bytes bits bits′ taken = subst (λ (x : State). Releases x bytes bits bits′ taken) e r in
     record {

@@ -6,15 +6,15 @@ use lib.ListN.{length, getD}
 use Rattle.base.specs.Bytes.{part}
 use Rattle.fragments.specs.Promises.{Takes, Releases, payloadOf}
 use Rattle.fragments.specs.declared.answer.Taken.{Taken}
-use Rattle.states.specs.Told.{Tells, placeOf, placedIn}
-use Rattle.states.specs.Words.{stateOf}
+use Rattle.store_words.specs.Reports.{Reports, placeOf, placedIn}
+use Rattle.store_words.specs.Words.{stateOf}
 
 -- The promise of a call that takes a frame: it is `take`'s, on every byte and bit; the words are left or those of the new state, and are read as the
 -- state that the store is in; and the payload that the core hands out stands at the place that is told.
 pub record Took (words frame bytes bits words′ bytes′ bits′ place : List ℕ) (number : ℕ) : Type 0 where
   pub taken : Taken
   pub takes : Takes (stateOf words) frame bytes bits bytes′ bits′ taken
-  pub tells : Tells words words′ taken number
+  pub tells : Reports words words′ taken number
   pub next : stateOf words′ ≡ taken .state
   pub placed : place ≡ placeOf (taken .answer) (taken .state) frame (length bytes′)
   pub payload : part (placedIn (taken .answer) frame bytes′) (getD place 0 0) (getD place 1 0) ≡ payloadOf (taken .answer) (taken .state) frame bytes′
@@ -23,5 +23,5 @@ pub record Took (words frame bytes bits words′ bytes′ bits′ place : List �
 pub record Freed (words bytes bits words′ bits′ : List ℕ) (number : ℕ) : Type 0 where
   pub taken : Taken
   pub releases : Releases (stateOf words) bytes bits bits′ taken
-  pub tells : Tells words words′ taken number
+  pub tells : Reports words words′ taken number
   pub next : stateOf words′ ≡ taken .state

@@ -3,7 +3,7 @@ ghost use lib.ListN.{length};
 ghost use mathlib.Core.Path.{_≡_};
 ghost use mathlib.Core.List.{[], _∷_};
 ghost use Rattle.frames.specs.Builders.{makeIpFrame, makeUdpPayload};
-ghost use Rattle.record.specs.Answer.{paper};
+ghost use Rattle.record.specs.Answer.{saidFor};
 ghost use Rattle.host.specs.Exported.{Built, Told, padded};
 ghost use Rattle.sums.specs.Rfc1071.{checksum as Rfc1071·checksum};
 ghost use Rattle.tcp.specs.Builders.{makeTcpFrame};
@@ -91,7 +91,7 @@ pub extern "C" fn yavoledu_checksum(data: &[u8]) -> u16
 
 // Stores the id of the record that came back, and tells the verdict.
 fn stored(answer: Answer, id: &mut u16, values: &mut [usize; 2]) -> u32
-    ensures { λ r. ⌜ (r ∷ now (values .exit) ≡ padded (paper (answer .verdict))) × (now (id .exit) ≡ answer .guest .id) ⌝ }
+    ensures { λ r. ⌜ (r ∷ now (values .exit) ≡ padded (saidFor (answer .verdict))) × (now (id .exit) ≡ answer .guest .id) ⌝ }
 {
     let after = answer.guest;
     *id = after.id;

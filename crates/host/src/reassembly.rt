@@ -2,9 +2,9 @@
 ghost use Rattle.host.specs.Reassembly.{Took, Freed};
 use fragments::release;
 use fragments::take;
-use states::place;
-use states::state_of;
-use states::tell;
+use store_words::place;
+use store_words::report;
+use store_words::state_of;
 
 #[no_mangle]
 pub extern "C" fn yavoledu_take(
@@ -19,7 +19,7 @@ pub extern "C" fn yavoledu_take(
 {
     let taken = take(state_of(*state), frame, bytes, bits);
     *payload = place(taken, frame, bytes.len());
-    tell(taken, state)
+    report(taken, state)
 }
 
 #[no_mangle]
@@ -27,5 +27,5 @@ pub extern "C" fn yavoledu_release(state: &mut [u32; 6], bytes: &[u8], bits: &mu
     ensures { λ r. ⌜ Freed (now (state .entry)) (now (bytes .entry)) (now (bits .entry)) (now (state .exit)) (now (bits .exit)) r ⌝ }
 {
     let taken = release(state_of(*state), bytes, bits);
-    tell(taken, state)
+    report(taken, state)
 }

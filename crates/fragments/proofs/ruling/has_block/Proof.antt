@@ -3,7 +3,7 @@ use Prim.Native.Nat.{ℕ, _-_, _/_}
 use mathlib.Core.Bool.{not}
 use mathlib.Core.Path.{ap, _∙_}
 use lib.Dec.{eqb}
-use Rattle.blocks.specs.Bitmap.{bit, count}
+use Rattle.bitmap.specs.Bitmap.{bit, count}
 use Rattle.fragments.specs.Rules.{overlaps}
 use borrow.Author.Needs.{needs}
 use Rattle.fragments.proofs.ruling.has_block.Statement.{statement}

@@ -4,7 +4,7 @@ use mathlib.Core.Bool.{not}
 use mathlib.Core.Path.{ap, _∙_}
 use borrow.Author.Tests.{not-true, not-false}
 use lib.Dec.{eqb}
-use Rattle.blocks.specs.Bitmap.{bit, count}
+use Rattle.bitmap.specs.Bitmap.{bit, count}
 use Rattle.fragments.specs.Rules.{wrongEnd}
 use borrow.Author.Needs.{needs}
 use Rattle.fragments.proofs.ruling.has_wrong_end.Statement.{statement}

@@ -2,7 +2,7 @@
 use mathlib.Core.Path.{sym, _∙_}
 use borrow.Author.Tests.{not-true, not-false}
 use Rattle.fragments.specs.Rules.{ruling, packetRuling}
-use Rattle.fragments.proofs.Fitting.{part-fits}
+use Rattle.packets.proofs.Fitting.{part-fits}
 use borrow.Author.Needs.{needs}
 use Rattle.fragments.proofs.ruling.rule.Statement.{statement}
 use Rattle.fragments.proofs.ruling.rule.Tie as tie

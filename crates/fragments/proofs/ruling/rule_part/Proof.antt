@@ -1,36 +1,50 @@
--- `rule_part` meets its contract, test by test.
-use mathlib.Core.Path.{sym, ap, _∙_}
-use Rattle.blocks.specs.Bitmap.{bit}
-use Rattle.fragments.specs.Rules.{partRuling, wrongEnd, endWith}
+-- `rule_part` meets its contract: each answer by the test that gave it and those before it.
+use mathlib.Core.Bool.{true, false}
+use mathlib.Core.Path.{_≡_}
+use Prim.Native.Nat.{ℕ}
+use Rattle.fragments.specs.Rules.{partRuling, isHeld, overlaps, wrongEnd, knownEnd, endWith}
+use Rattle.fragments.specs.declared.answer.Answer.the-variants as Answer
 use Rattle.fragments.specs.declared.answer.End.{End}
-use Rattle.fragments.specs.declared.ruling.Ruling.the-variants.{Store}
+use Rattle.fragments.specs.declared.answer.State.{State}
+use Rattle.fragments.specs.declared.ruling.Ruling.{Ruling}
+use Rattle.fragments.specs.declared.ruling.Ruling.the-variants.{Refuse, Write}
+use Rattle.packets.specs.declared.packet.Fragment.{Fragment}
 use borrow.Author.Needs.{needs}
 use Rattle.fragments.proofs.ruling.rule_part.Statement.{statement}
 use Rattle.fragments.proofs.ruling.rule_part.Tie as tie
 
+module _ (state : State) (f : Fragment) (there : ℕ → ℕ) where
+  gets-11 : isHeld state (f .datagram) ≡ true → Refuse Answer.Held ≡ partRuling state there f
+  unfolding partRuling
+  gets-11 held = simp held
+
+  gets-12 : isHeld state (f .datagram) ≡ false → overlaps f there ≡ true → Refuse Answer.Overlap ≡ partRuling state there f
+  unfolding partRuling
+  gets-12 free over = simp (free, over)
+
+  gets-13 : isHeld state (f .datagram) ≡ false → overlaps f there ≡ false → wrongEnd f (knownEnd state) there ≡ true → Refuse Answer.WrongEnd ≡ partRuling state there f
+  unfolding partRuling
+  gets-13 free apart wrong = simp (free, apart, wrong)
+
+  is-written : isHeld state (f .datagram) ≡ false → overlaps f there ≡ false → wrongEnd f (knownEnd state) there ≡ false
+      → (end : End) → end ≡ endWith f (knownEnd state) → Write f end ≡ partRuling state there f
+  unfolding partRuling
+  is-written free apart right end e = simp (e, free, apart, right)
+
 returns : tie.Need-returns
-unfolding partRuling
-returns c = simp (sym (c .before .is-held .ensures) ∙ c .if1 .taken)
+returns c = gets-11 _ _ _ (cc)
 
 returns-2 : tie.Need-returns-2
-unfolding partRuling
-returns-2 c = simp (sym (c .before .before .before .before .before .is-held .ensures) ∙ c .before .before .before .before .if1 .left, sym (c .before .before .has-block .ensures) ∙ c .if2 .taken)
+returns-2 c = gets-12 _ _ _ (cc) (cc)
 
 returns-3 : tie.Need-returns-3
-unfolding partRuling
-returns-3 c =
-    let a = c .before .before .before .before .before .before .before .before .args in
-    simp (sym (c .before .before .before .before .before .before .is-held .ensures) ∙ c .before .before .before .before .before .if1 .left, sym (c .before .before .before .has-block .ensures) ∙ c .before .if2 .left, ap (λ (e : End). wrongEnd (a .fragment) e (bit (a .bits .now))) (sym (c .before .before .before .before .known-end .ensures)) ∙ sym (c .before .before .has-wrong-end .ensures) ∙ c .if3 .taken)
+returns-3 c = gets-13 _ _ _ (cc) (cc) (cc)
 
 returns-4 : tie.Need-returns-4
-unfolding partRuling
-returns-4 c =
-    let a = c .before .before .before .before .before .before .before .before .before .args in
-    ap (Store (a .fragment)) (c .end-with .ensures ∙ ap (endWith (a .fragment)) (c .before .before .before .before .before .known-end .ensures))
-    ∙ simp (sym (c .before .before .before .before .before .before .before .is-held .ensures) ∙ c .before .before .before .before .before .before .if1 .left, sym (c .before .before .before .before .has-block .ensures) ∙ c .before .before .if2 .left, ap (λ (e : End). wrongEnd (a .fragment) e (bit (a .bits .now))) (sym (c .before .before .before .before .before .known-end .ensures)) ∙ sym (c .before .before .before .has-wrong-end .ensures) ∙ c .before .if3 .left)
+returns-4 c = is-written _ _ _ (cc) (cc) (cc) _ (cc)
 
 pub rule-part-spec : {M : Type 1} → statement M
 rule-part-spec =
     tie.close
-    (tie.spec (λ c κs. search needs) returns (λ c κs. search needs) (λ c κs. search needs)
-    (λ c κs. search needs) returns-2 returns-3 (λ c κs. search needs) returns-4)
+    (tie.spec (λ c κs. search needs) (λ c κs. search needs) returns (λ c κs. search needs) returns-2
+    (λ c κs. search needs) returns-3 (λ c κs. search needs) returns-4)

@@ -5,7 +5,7 @@ use native.Mathlib.Omega.{arith}
 use lib.ListN.{take, drop}
 use Rattle.fragments.specs.Promises.{wholePayload}
 use borrow.Author.Needs.{needs}
-use Rattle.fragments.proofs.Fitting.{whole-fits}
+use Rattle.packets.proofs.Fitting.{whole-fits}
 use Rattle.fragments.proofs.store.of_frame.Statement.{statement}
 use Rattle.fragments.proofs.store.of_frame.Tie as tie
 

@@ -3,15 +3,15 @@ use Prim.Native.Nat.{_-_}
 use mathlib.Core.Path.{_≡_, refl, sym, ap, _∙_}
 use native.Mathlib.Omega.{arith}
 use borrow.Author.Tests.{eq-eqb, ne-eqb}
-use Rattle.blocks.specs.Bitmap.{bit, count}
-use Rattle.fragments.specs.Answer.{paper}
+use Rattle.bitmap.specs.Bitmap.{bit, count}
+use Rattle.fragments.specs.Answer.{saidFor}
 use Rattle.fragments.specs.Rules.{blocksOf, settled}
 use borrow.Author.Needs.{needs}
 use Rattle.fragments.proofs.store.settle.Statement.{statement}
 use Rattle.fragments.proofs.store.settle.Tie as tie
 
 returns : tie.Need-returns
-unfolding paper settled
+unfolding saidFor settled
 returns c =
     let a = c .before .before .before .before .before .before .before .args in
     let there = bit (a .bits .now) in
@@ -21,7 +21,7 @@ returns c =
     rw (c .before .before .before .before .end .given .1) (record { answers = simp e; next = simp e })
 
 returns-2 : tie.Need-returns-2
-unfolding paper settled
+unfolding saidFor settled
 returns-2 c =
     let a = c .before .before .before .before .before .before .before .before .args in
     let there = bit (a .bits .now) in
@@ -31,7 +31,7 @@ returns-2 c =
     rw (c .filling .ensures, c .before .before .before .before .before .end .given .1) (record { answers = simp e; next = simp e })
 
 returns-3 : tie.Need-returns-3
-unfolding paper settled
+unfolding saidFor settled
 returns-3 c = rw (c .filling2 .ensures, c .before .enum-told .given .1) (record { answers = refl; next = refl })
 
 pub settle-spec : {M : Type 1} → statement M

@@ -1,37 +1,37 @@
 -- `take` meets its contract: the ruling is carried out.
 use mathlib.Core.Path.{refl, sym, _∙_}
 use lib.ListN.{length}
-use Rattle.fragments.specs.Answer.{paper}
+use Rattle.fragments.specs.Answer.{saidFor}
 use Rattle.fragments.specs.Rules.{outcomeOf}
-use Rattle.fragments.proofs.Fitting.{part-fits}
+use Rattle.packets.proofs.Fitting.{part-fits}
 use Rattle.fragments.proofs.Ruled.{stored}
 use Rattle.fragments.proofs.Storing.{of-size}
 use borrow.Author.Needs.{needs}
 use Rattle.fragments.proofs.store.take.Statement.{statement}
 use Rattle.fragments.proofs.store.take.Tie as tie
 
-store-requires : tie.Need-store-requires
-store-requires c κs =
+write-requires : tie.Need-write-requires
+write-requires c κs =
     let a = c .before .before .before .before .before .before .before .before .before .before .args in
     let to-store = stored (a .state) (a .frame .now) (length (a .bytes .now)) (a .bits .now) (c .before .before .before .ruling2 .given .0 .0) (c .before .before .before .ruling2 .given .0 .1 .0) (sym (c .before .before .before .before .before .rule .ensures) ∙ c .before .before .before .ruling2 .given .1) in
     let fits = part-fits (a .frame .now) (c .before .before .before .ruling2 .given .0 .0) (to-store .1 .is-part) in
     (fits .in-frame, (fits .short, of-size _ _ (to-store .0)))
 
 returns : tie.Need-returns
-unfolding paper outcomeOf
+unfolding saidFor outcomeOf
 returns c = rw (sym (c .before .before .before .rule .ensures) ∙ c .before .ruling .given .1) (record { answers = refl; next = refl; store = record { kept-bytes = refl; kept-bits = refl } })
 
 returns-2 : tie.Need-returns-2
-unfolding paper outcomeOf
+unfolding saidFor outcomeOf
 returns-2 c = rw (sym (c .before .before .rule .ensures) ∙ c .enum-told .given .1) (record { answers = refl; next = refl; store = record { kept-bytes = refl; kept-bits = refl } })
 
 returns-3 : tie.Need-returns-3
 unfolding outcomeOf
-returns-3 c = rw (sym (c .before .before .before .before .before .before .before .before .before .before .rule .ensures) ∙ c .before .before .before .before .before .before .before .before .ruling2 .given .1) (record { answers = c .before .before .before .before .store .ensures .0 .answers; next = c .before .before .before .before .store .ensures .0 .next; store = c .before .before .before .before .store .ensures .1 })
+returns-3 c = rw (sym (c .before .before .before .before .before .before .before .before .before .before .rule .ensures) ∙ c .before .before .before .before .before .before .before .before .ruling2 .given .1) (record { answers = c .before .before .before .before .write .ensures .0 .answers; next = c .before .before .before .before .write .ensures .0 .next; store = c .before .before .before .before .write .ensures .1 })
 
 pub take-spec : {M : Type 1} → statement M
 take-spec =
     tie.close
     (tie.spec (λ c κs. search needs) (λ c. search needs) (λ c. search needs) (λ c. search needs)
-    store-requires (λ c. search needs) returns (λ c. search needs) returns-2 (λ c. search needs)
+    write-requires (λ c. search needs) returns (λ c. search needs) returns-2 (λ c. search needs)
     (λ c. search needs) returns-3)

@@ -102,7 +102,7 @@ module _ {M : Type 1} (𝓤 : URA M) (H : Heap 𝓤) (A : Atoms 𝓤) (W : Given
   Said r g zs = core.Meets (outcome network h (fr .now) (length (re .now))) (re .now) zs (record { verdict = r; guest = g })
 
   abbrev Numbers : Verdict → ℕ → List ℕ → Type 0
-  Numbers r n vs = n ∷ vs ≡ padded (core.paper r)
+  Numbers r n vs = n ∷ vs ≡ padded (core.saidFor r)
 
   -- the tokens that `send` asks and gives back, and those of `numbered`
   abbrev tokens : Item 𝓤

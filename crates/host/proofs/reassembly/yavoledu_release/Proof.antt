@@ -6,7 +6,7 @@ use Rattle.host.proofs.reassembly.yavoledu_release.Tie as tie
 
 returns : tie.Need-returns
 returns c =
-    freed-of (c .before .before .before .before .release .result) (c .tell .ensures) (c .before .before .before .before .before .before .state-of .ensures) (c .before .before .before .before .release .ensures)
+    freed-of (c .before .before .before .before .release .result) (c .report .ensures) (c .before .before .before .before .before .before .state-of .ensures) (c .before .before .before .before .release .ensures)
 
 pub yavoledu-release-spec : {M : Type 1} → statement M
 yavoledu-release-spec =

@@ -1,9 +1,0 @@
-// A store as a host in C keeps it and is told of it: its state in six words, an answer as a number, a payload as a
-// place. Every value of the words is a state, and no function relies on checks by its caller.
-mod placing;
-mod telling;
-mod words;
-
-pub use placing::place;
-pub use telling::tell;
-pub use words::state_of;

@@ -1,0 +1,4 @@
+pub mod Back
+pub mod Numbers
+pub mod Changing
+pub mod Placed

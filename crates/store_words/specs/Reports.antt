@@ -1,0 +1,66 @@
+-- What C is told of a call on a store: a number, the words that it keeps, and where the payload stands.
+use Prim.Native.Nat.{ℕ, _+_}
+use mathlib.Core.Bool.{Bool, true, false, cond}
+use mathlib.Core.List.{List, [], _∷_}
+use mathlib.Core.Path.{_≡_}
+use lib.Dec.{leb}
+use Rattle.wire.specs.Rfc791.{headerLength}
+use Rattle.wire.specs.Rfc894.{body}
+use Rattle.fragments.specs.Answer.{Said, passed, stored, complete, released, refused, saidFor}
+use Rattle.packets.specs.Packets.{payloadLength}
+use Rattle.fragments.specs.declared.answer.Answer.{Answer}
+use Rattle.fragments.specs.declared.answer.Answer.the-variants as Answer
+use Rattle.fragments.specs.declared.answer.State.{State}
+use Rattle.fragments.specs.declared.answer.State.the-variants.{Empty, Filling, Complete}
+use Rattle.fragments.specs.declared.answer.Taken.{Taken}
+use Rattle.store_words.specs.Words.{stateOf, wordsOf}
+
+-- the refusals are document 02's numbers; the four others are ours, past all of its
+unfoldable pub numberOf : Said → ℕ
+numberOf passed = 20
+numberOf stored = 21
+numberOf complete = 22
+numberOf released = 23
+numberOf (refused number) = number
+
+-- the answers that come with a new state
+unfoldable pub changes : Said → Bool
+changes passed = false
+changes stored = true
+changes complete = true
+changes released = true
+changes (refused number) = false
+
+-- The promise of reporting what came of a call: its number; the words of the new state, or else the words exactly as they were; and that they are read as it.
+pub record Reports (words words′ : List ℕ) (taken : Taken) (number : ℕ) : Type 0 where
+  pub numbered : number ≡ numberOf (saidFor (taken .answer))
+  pub written : words′ ≡ cond (changes (saidFor (taken .answer))) (wordsOf (taken .state)) words
+  pub read : stateOf words′ ≡ cond (changes (saidFor (taken .answer))) (taken .state) (stateOf words)
+
+-- in a complete store the payload is the first bytes; a state that tells more than are lent hands out none
+unfoldable pub storedPlace : (lent : ℕ) → State → List ℕ
+storedPlace lent (Complete d length) = 0 ∷ cond (leb length lent) length 0 ∷ []
+storedPlace lent Empty = 0 ∷ 0 ∷ []
+storedPlace lent (Filling d end) = 0 ∷ 0 ∷ []
+
+-- Where the payload starts and its length: in the frame on passed, in the store's bytes on complete; 0 and 0 on every other answer.
+unfoldable pub placeOf : Answer → State → (frame : List ℕ) (lent : ℕ) → List ℕ
+placeOf Answer.Passed state frame lent = (14 + headerLength (body frame)) ∷ payloadLength (body frame) ∷ []
+placeOf Answer.Complete state frame lent = storedPlace lent state
+placeOf Answer.Stored state frame lent = 0 ∷ 0 ∷ []
+placeOf Answer.Released state frame lent = 0 ∷ 0 ∷ []
+placeOf Answer.Unfit state frame lent = 0 ∷ 0 ∷ []
+placeOf Answer.Held state frame lent = 0 ∷ 0 ∷ []
+placeOf Answer.Overlap state frame lent = 0 ∷ 0 ∷ []
+placeOf Answer.WrongEnd state frame lent = 0 ∷ 0 ∷ []
+
+-- what the place is counted in
+unfoldable pub placedIn : Answer → (frame bytes : List ℕ) → List ℕ
+placedIn Answer.Passed frame bytes = frame
+placedIn Answer.Complete frame bytes = bytes
+placedIn Answer.Stored frame bytes = bytes
+placedIn Answer.Released frame bytes = bytes
+placedIn Answer.Unfit frame bytes = bytes
+placedIn Answer.Held frame bytes = bytes
+placedIn Answer.Overlap frame bytes = bytes
+placedIn Answer.WrongEnd frame bytes = bytes
