@@ -1,6 +1,5 @@
 // One call: a frame is taken or the store is released, and all that can be seen of it is compared. Tests
 // are joined by `&`: each `&&` would be a branch, and more to prove.
-ghost use Prim.Native.Nat.{_≤_};
 use crate::compared;
 use crate::spaces;
 use fragments::State;
@@ -24,6 +23,8 @@ const STORED: u8 = 1;
 const COMPLETE: u8 = 2;
 
 const RELEASED: u8 = 3;
+
+const STORE_WORDS: usize = 128;
 
 pub fn called(
     state: State,
@@ -49,17 +50,17 @@ fn kept_call(
     bytes: &mut [u8],
     bits: &mut [u64],
 ) -> Outcome {
-    let mut old_bytes = spaces::store_bytes();
-    let mut old_bits = spaces::store_bits();
-    compared::keep_bytes(bytes, &mut old_bytes);
+    let mut space = vectors::clear_space();
+    let mut old_bits = spaces::clear_bits();
+    let old_bytes = vectors::front(&mut space, bytes.len());
+    frames::put(old_bytes, 0, bytes);
     compared::keep_words(bits, &mut old_bits);
     let call = compared_call(state, wanted, frame, payload, bytes, bits);
     let after = call.state;
-    let same_bytes = check::same(bytes, &old_bytes);
     let kept = is_kept(wanted.answer, state, after, bits, &old_bits);
     Outcome {
         state: after,
-        agrees: call.agrees & same_bytes & kept,
+        agrees: call.agrees & check::same(bytes, old_bytes) & kept,
     }
 }
 
@@ -67,10 +68,11 @@ fn kept_call(
 // those from before. The word behind the store's last is not its own.
 fn is_kept(answer: u8, state: State, after: State, bits: &[u64], old_bits: &[u64]) -> bool {
     if answer == RELEASED {
-        let words = least(words_lent(0), bits.len());
-        return compared::is_same_state(after, State::Empty) & compared::are_clear(&bits[..words]);
+        let clear = spaces::clear_bits();
+        return compared::is_same_state(after, State::Empty)
+            & compared::are_same_words(bits, &clear, STORE_WORDS);
     }
-    compared::is_same_state(after, state) & compared::are_same_words(bits, old_bits)
+    compared::is_same_state(after, state) & compared::are_same_words(bits, old_bits, bits.len())
 }
 
 // The answer and the payload handed out are the expected ones.
@@ -82,16 +84,10 @@ fn compared_call(
     bytes: &mut [u8],
     bits: &mut [u64],
 ) -> Outcome {
-    let n = least(bytes_lent(wanted.lent), bytes.len());
-    let words = least(words_lent(wanted.lent), bits.len());
-    let taken = asked(
-        state,
-        wanted.release,
-        frame,
-        &mut bytes[..n],
-        &mut bits[..words],
-    );
-    let handed_out = fragments::payload(taken, frame, &bytes[..n]);
+    let lent = vectors::front(bytes, bytes_lent(wanted.lent));
+    let lent_bits = front_words(bits, words_lent(wanted.lent));
+    let taken = asked(state, wanted.release, frame, lent, lent_bits);
+    let handed_out = fragments::payload(taken, frame, lent);
     let same_payload = check::same(handed_out, payload);
     let answer = taken.answer;
     let after = taken.state;
@@ -125,12 +121,14 @@ fn words_lent(lent: u16) -> usize {
         4 => 129,
         6 => 0,
         7 => 0,
-        _ => 128,
+        _ => STORE_WORDS,
     }
 }
 
-fn least(one: usize, other: usize) -> usize
-    ensures { λ r. ⌜ r ≤ other ⌝ }
-{
-    if one < other { one } else { other }
+// The first `count` words, or all where there are fewer.
+fn front_words<'a>(words: &'a mut [u64], count: usize) -> &'a mut [u64] {
+    if words.len() <= count {
+        return words;
+    }
+    &mut words[..count]
 }

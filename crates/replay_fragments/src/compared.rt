@@ -83,13 +83,11 @@ fn is_same(one: Numbers, other: Numbers) -> bool {
         & (one.end == other.end)
 }
 
-pub fn are_same_words(one: &[u64], other: &[u64]) -> bool {
-    if one.len() != other.len() {
-        return false;
-    }
+// Whether the first `count` words are the same; where there are fewer, 0 stands for the others.
+pub fn are_same_words(one: &[u64], other: &[u64], count: usize) -> bool {
     let mut i = 0;
-    while i < one.len() {
-        if one[i] != other[i] {
+    while i < count {
+        if word_at(one, i) != word_at(other, i) {
             return false;
         }
         i += 1;
@@ -97,23 +95,11 @@ pub fn are_same_words(one: &[u64], other: &[u64]) -> bool {
     true
 }
 
-// Whether all words are 0.
-pub fn are_clear(words: &[u64]) -> bool {
-    let mut i = 0;
-    while i < words.len() {
-        if words[i] != 0 {
-            return false;
-        }
-        i += 1;
+fn word_at(words: &[u64], at: usize) -> u64 {
+    if words.len() <= at {
+        return 0;
     }
-    true
-}
-
-pub fn keep_bytes(from: &[u8], to: &mut [u8]) {
-    if to.len() < from.len() {
-        return;
-    }
-    bytes::copy(from, to);
+    words[at]
 }
 
 pub fn keep_words(from: &[u64], to: &mut [u64]) {

@@ -154,11 +154,7 @@ fn lay_piece(piece: &[u8], room: &mut [u8]) {
         );
         return;
     }
-    let written = vectors::rest(piece, HEAD_SIZE);
-    if room.len() < written.len() {
-        return;
-    }
-    bytes::copy(written, room);
+    frames::put(room, 0, vectors::rest(piece, HEAD_SIZE));
 }
 
 fn lay_run(first: u8, step: u8, bend: u8, room: &mut [u8]) {

@@ -31,6 +31,9 @@ const SPOILED: u8 = 0x83;
 
 const ORIGINS: u8 = 4;
 
+// A store's 65,515 bytes and one more: some steps lend it too large.
+const STORE_BYTES: usize = 65516;
+
 impl Run {
     pub fn new() -> Run {
         Run {
@@ -102,9 +105,10 @@ fn listed(run: Run, line: &[u8], pool: &mut [u8], ends: &mut [usize]) -> Run {
 // The calls of a spoiled replay are not counted.
 fn replayed(run: Run, line: &[u8], pool: &[u8], ends: &[usize]) -> Run {
     let tally = run.tally;
-    let mut bytes = spaces::rubbish_bytes();
+    let mut space = vectors::marked_space();
+    let bytes = vectors::front(&mut space, STORE_BYTES);
     let mut bits = spaces::rubbish_bits();
-    let replay = replays::replayed(tally, line, run.items, pool, ends, &mut bytes, &mut bits);
+    let replay = replays::replayed(tally, line, run.items, pool, ends, bytes, &mut bits);
     if !replay.whole | (run.origin == 0) {
         return unread(run);
     }

@@ -3,9 +3,9 @@
 // behind them as many zeros as ZEROS says in four bytes.
 ghost use Prim.Native.Nat.{_≤_};
 use crate::expected;
-use crate::spaces;
 use fields::byte_at;
 use fields::u32be;
+use vectors::SPOILED;
 
 // What comes of a line.
 pub enum Case {
@@ -18,10 +18,9 @@ pub enum Case {
     Compared { origin: u8, kind: u8, agrees: bool },
 }
 
-// A line whose kind has the bit 0x80 set is spoiled: it is right to find it wrong.
-const SPOILED: u8 = 0x80;
-
 const ORIGINS: u8 = 7;
+
+const LONGEST_FRAME: usize = 66000;
 
 pub fn judge(whole: bool, line: &[u8]) -> Case {
     if !whole {
@@ -42,25 +41,22 @@ pub fn judge(whole: bool, line: &[u8]) -> Case {
     if line.len() < end + 4 {
         return Case::Unread;
     }
-    let mut space = spaces::longest_frame();
-    compare(line, kind, end, &mut space)
+    compare(line, kind, end)
 }
 
-// Lays out the frame in `space`, which is all zeros. What is expected ends at `end`.
-fn compare(line: &[u8], kind: u8, end: usize, space: &mut [u8]) -> Case
+// What is expected ends at `end`.
+fn compare(line: &[u8], kind: u8, end: usize) -> Case
     requires { ⌜ end ≤ 51 ⌝ }
 {
     let written = vectors::rest(line, end + 4);
-    let zeros = u32be(line, end) as usize;
-    if space.len() < written.len() {
+    let len = written.len() + (u32be(line, end) as usize);
+    if LONGEST_FRAME < len {
         return Case::Unread;
     }
-    if space.len() - written.len() < zeros {
-        return Case::Unread;
-    }
-    let len = bytes::copy(written, space) + zeros;
-    let reading = reader::read(&space[..len]);
-    outcome(line, expected::is_expected(line, kind, reading))
+    let mut space = vectors::clear_space();
+    let frame = vectors::front(&mut space, len);
+    frames::put(frame, 0, written);
+    outcome(line, expected::is_expected(line, kind, reader::read(frame)))
 }
 
 fn outcome(line: &[u8], agrees: bool) -> Case {

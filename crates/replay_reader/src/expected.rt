@@ -43,48 +43,48 @@ pub fn end(kind: u8) -> usize
 
 pub fn is_expected(line: &[u8], kind: u8, reading: Reading) -> bool {
     match reading {
-        Reading::Arp { ethernet } => kind == ARP && is_layer(line, 0, ethernet),
+        Reading::Arp { ethernet } => (kind == ARP) & is_layer(line, 0, ethernet),
         Reading::Icmp {
             ethernet,
             ip,
             message,
-        } => kind == ICMP && are_layers(line, ethernet, ip, message),
+        } => (kind == ICMP) & are_layers(line, ethernet, ip, message),
         Reading::Udp {
             ethernet,
             ip,
             datagram,
-        } => kind == UDP && are_layers(line, ethernet, ip, datagram),
+        } => (kind == UDP) & are_layers(line, ethernet, ip, datagram),
         Reading::Dhcp {
             ethernet,
             ip,
             datagram,
             message,
             message_type,
-        } => kind == DHCP
-            && are_layers(line, ethernet, ip, datagram)
-            && is_layer(line, 3, message)
-            && byte_at(line, TYPE_AT) == message_type,
+        } => (kind == DHCP)
+            & are_layers(line, ethernet, ip, datagram)
+            & is_layer(line, 3, message)
+            & (byte_at(line, TYPE_AT) == message_type),
         Reading::Tcp {
             ethernet,
             ip,
             segment,
-        } => kind == TCP && are_layers(line, ethernet, ip, segment),
-        Reading::OtherIpv4 { ethernet, ip } => kind == OTHER_IPV4
-            && is_layer(line, 0, ethernet)
-            && is_layer(line, 1, ip),
+        } => (kind == TCP) & are_layers(line, ethernet, ip, segment),
+        Reading::OtherIpv4 { ethernet, ip } => (kind == OTHER_IPV4)
+            & is_layer(line, 0, ethernet)
+            & is_layer(line, 1, ip),
         Reading::Outside => kind == OUTSIDE,
     }
 }
 
 fn are_layers(line: &[u8], first: Layer, second: Layer, third: Layer) -> bool {
-    is_layer(line, 0, first) && is_layer(line, 1, second) && is_layer(line, 2, third)
+    is_layer(line, 0, first) & is_layer(line, 1, second) & is_layer(line, 2, third)
 }
 
 fn is_layer(line: &[u8], number: usize, layer: Layer) -> bool
     requires { ⌜ number < 4 ⌝ }
 {
     let at = LAYERS_AT + number * LAYER_SIZE;
-    u32be(line, at) as usize == layer.header
-        && u32be(line, at + 4) as usize == layer.payload
-        && u32be(line, at + 8) as usize == layer.stop
+    (u32be(line, at) as usize == layer.header)
+        & (u32be(line, at + 4) as usize == layer.payload)
+        & (u32be(line, at + 8) as usize == layer.stop)
 }

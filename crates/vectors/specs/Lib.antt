@@ -2,3 +2,5 @@ pub mod Pick
 pub mod Slices
 pub mod Lines
 pub mod Count
+pub mod Payload
+pub mod Spaces
