@@ -26,23 +26,8 @@ const RELEASED: u8 = 3;
 
 const STORE_WORDS: usize = 128;
 
-pub fn called(
-    state: State,
-    wanted: Wanted,
-    frame: &[u8],
-    payload: &[u8],
-    bytes: &mut [u8],
-    bits: &mut [u64],
-) -> Outcome {
-    let answer = wanted.answer;
-    match answer {
-        STORED | COMPLETE => compared_call(state, wanted, frame, payload, bytes, bits),
-        _ => kept_call(state, wanted, frame, payload, bytes, bits),
-    }
-}
-
 // The call, and what it may not change.
-fn kept_call(
+pub fn called(
     state: State,
     wanted: Wanted,
     frame: &[u8],
@@ -57,11 +42,16 @@ fn kept_call(
     compared::keep_words(bits, &mut old_bits);
     let call = compared_call(state, wanted, frame, payload, bytes, bits);
     let after = call.state;
-    let kept = is_kept(wanted.answer, state, after, bits, &old_bits);
+    let kept = check::same(bytes, old_bytes)
+        & is_kept(wanted.answer, state, after, bits, &old_bits);
     Outcome {
         state: after,
-        agrees: call.agrees & check::same(bytes, old_bytes) & kept,
+        agrees: call.agrees & (may_change(wanted.answer) | kept),
     }
+}
+
+fn may_change(answer: u8) -> bool {
+    (answer == STORED) | (answer == COMPLETE)
 }
 
 // Whether state and bits are what the answer says: those of an empty store behind a release, and else

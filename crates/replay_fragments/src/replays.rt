@@ -40,20 +40,7 @@ pub fn replayed(
     bytes: &mut [u8],
     bits: &mut [u64],
 ) -> Replay {
-    let start = emptied(tally, bytes, bits);
-    gone_through(start, line, listed, pool, ends, bytes, bits)
-}
-
-fn gone_through(
-    start: Replay,
-    line: &[u8],
-    listed: Items,
-    pool: &[u8],
-    ends: &[usize],
-    bytes: &mut [u8],
-    bits: &mut [u64],
-) -> Replay {
-    let mut replay = start;
+    let mut replay = emptied(tally, bytes, bits);
     let mut at = 1;
     while at < line.len() {
         if line.len() - at < STEP_SIZE {
