@@ -69,4 +69,4 @@ pub record Decoded (text : List ℕ) (at room : ℕ) (line : List ℕ) (r : Line
   pub bytes : take (r .len) line ≡ bytesOf room (signsAt text at)
   pub fits : r .len ≤ room
   pub within : r .next ≤ length text
-  pub moves : at < length text → at < r .next
+  pub moves : min (at + 1) (length text) ≤ r .next
