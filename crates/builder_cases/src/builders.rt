@@ -119,11 +119,7 @@ fn tcp_frame(line: &[u8], payload: &[u8], out: &mut [u8]) -> Answer {
 
 // The record of every call: the line's id, and a MAC and xid that no builder may change.
 fn guest(line: &[u8]) -> Guest {
-    Guest {
-        mac: [1, 2, 3, 4, 5, 6],
-        id: u16be(line, 1),
-        xid: 0x0708090a,
-    }
+    Guest::of([1, 2, 3, 4, 5, 6], u16be(line, 1), 0x0708090a)
 }
 
 // Besides verdict and bytes the record: an IPv4 frame built spends the id, and the rest is kept.

@@ -71,11 +71,7 @@ pub fn called(line: &[u8], last: Guest) -> Outcome
 
 // It has the MAC of the record after the call.
 fn record_before(line: &[u8]) -> Guest {
-    Guest {
-        mac: mac_at(line, 7),
-        id: u16be(line, 1),
-        xid: u32be(line, 3),
-    }
+    Guest::of(mac_at(line, 7), u16be(line, 1), u32be(line, 3))
 }
 
 fn judged(fields: &[u8], before: Guest) -> Outcome
