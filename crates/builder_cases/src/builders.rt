@@ -20,6 +20,11 @@ const UDP_PAYLOAD: u8 = 2;
 
 const TCP_FRAME: u8 = 3;
 
+// Of the record of every call: no builder may change them.
+const MAC: [u8; 6] = [1, 2, 3, 4, 5, 6];
+
+const XID: u32 = 0x0708090a;
+
 // Built from a payload beside the buffer, and from one that lies in the buffer.
 pub fn builds_ip_frame(line: &[u8]) -> bool {
     builds(line, IP_FRAME, 18) & builds(line, IP_FRAME_IN_PLACE, 18)
@@ -117,9 +122,8 @@ fn tcp_frame(line: &[u8], payload: &[u8], out: &mut [u8]) -> Answer {
     )
 }
 
-// The record of every call: the line's id, and a MAC and xid that no builder may change.
 fn guest(line: &[u8]) -> Guest {
-    Guest::of([1, 2, 3, 4, 5, 6], u16be(line, 1), 0x0708090a)
+    Guest::of(MAC, u16be(line, 1), XID)
 }
 
 // Besides verdict and bytes the record: an IPv4 frame built spends the id, and the rest is kept.
@@ -135,14 +139,11 @@ fn is_answer(
     let verdict = answer.verdict;
     let after = answer.guest;
     let spent = (e.number == 1) & (builder != UDP_PAYLOAD);
-    is_record(
-        after,
-        std::num::wrapping_add_u16(u16be(line, 1), spent as u16),
-    )
-        & answers::is_expected(e.number, e.value, head, payload, verdict, out)
+    let id = std::num::wrapping_add_u16(u16be(line, 1), spent as u16);
+    is_record(after, id) & answers::is_expected(e.number, e.value, head, payload, verdict, out)
 }
 
 fn is_record(guest: Guest, id: u16) -> bool {
     let mac = guest.mac;
-    check::same(&mac, &[1, 2, 3, 4, 5, 6]) & (guest.id == id) & (guest.xid == 0x0708090a)
+    check::same(&mac, &MAC) & (guest.id == id) & (guest.xid == XID)
 }

@@ -2,14 +2,9 @@
 use crate::answers;
 use options::Found;
 use record::Network;
-use record::Network;
-use wire::bytes::byte_at;
 use wire::bytes::byte_at;
 use wire::bytes::mac_at;
-use wire::bytes::mac_at;
 use wire::bytes::u16be;
-use wire::bytes::u16be;
-use wire::bytes::u32be;
 use wire::bytes::u32be;
 
 const CUT: u8 = 7;

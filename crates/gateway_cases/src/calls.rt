@@ -1,6 +1,5 @@
 // One call: the record, the room and the frame that a line holds, and whether verdict, reply and record
 // come out as it says.
-ghost use lib.ListN.{getD};
 ghost use mathlib.Core.Path.{_≡_};
 ghost use Rattle.gateway_cases.specs.Calls.{Called, Judged, isCall};
 use crate::pieces;

@@ -7,7 +7,6 @@ use record::Guest;
 use vectors::SPOILED;
 use vectors::Tally;
 use wire::bytes::byte_at;
-use wire::bytes::byte_at;
 
 const STDIN: i32 = 0;
 

@@ -1,7 +1,6 @@
 // A payload that a line writes out, or gives by a rule.
 ghost use mathlib.Core.Path.{_≡_};
 ghost use Prim.Native.Nat.{_+_, _%_, _<_};
-ghost use lib.ListN.{getD};
 ghost use Rattle.vectors.specs.Payload.{Laid, payloadByte};
 
 // Fills `out`: where the seed is 0 with what is written and zeros behind it, where it is 0xff with that
@@ -12,7 +11,7 @@ pub fn lay_payload(written: &[u8], seed: u8, out: &mut [u8])
     let mut ruled = seed % 251;
     let mut i = 0;
     while i < out.len() {
-        out[i] = payload_byte(seed, byte_or_zero(written, i), ruled);
+        out[i] = payload_byte(seed, wire::bytes::byte_at(written, i), ruled);
         ruled = next_ruled(ruled);
         i += 1;
     }
@@ -35,13 +34,4 @@ fn next_ruled(ruled: u8) -> u8
     ensures { λ r. ⌜ r ≡ (ruled + 17) % 251 ⌝ }
 {
     (((ruled as u16) + 17) % 251) as u8
-}
-
-fn byte_or_zero(s: &[u8], i: usize) -> u8
-    ensures { λ r. ⌜ r ≡ getD (now (s .entry)) i 0 ⌝ }
-{
-    if s.len() <= i {
-        return 0;
-    }
-    s[i]
 }

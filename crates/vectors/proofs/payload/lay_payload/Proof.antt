@@ -29,7 +29,7 @@ loop-again c =
       omega (arith, c .next-ruled .ensures, l .inv .2),
       below-more _ _
           (λ k m. getD-set-other (l .out) (l .i) k _ 0 (λ e. omega arith) ∙ l .inv .3 k m)
-          (cc (getD-set-same (l .out) (l .i) (c .before .payload-byte .result) 0 h, c .before .payload-byte .ensures, c .before .before .byte-or-zero .ensures, l .inv .2)),
+          (cc (getD-set-same (l .out) (l .i) (c .before .payload-byte .result) 0 h, c .before .payload-byte .ensures, c .before .before .byte-at .ensures, l .inv .2)),
     )
 
 returns : tie.Need-returns Inv-loop μ-loop
