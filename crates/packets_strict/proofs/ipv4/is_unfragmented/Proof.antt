@@ -8,6 +8,11 @@ use Rattle.grammar.specs.Grammar.{Unfragmented}
 use Rattle.packets_strict.proofs.ipv4.is_unfragmented.Statement.{statement}
 use Rattle.packets_strict.proofs.ipv4.is_unfragmented.Tie as tie
 
+returns : tie.Need-returns
+returns c =
+    let field = c .before .u16be .ensures in
+    record { reserved = omega (arith, field); more-fragments = omega (arith, field); offset = omega (arith, field) }
+
 returns-2 : tie.Need-returns-2
 returns-2 c =
     let f = c .before in
@@ -18,4 +23,4 @@ returns-2 c =
     (λ a. omega (arith, field, a .reserved, a .more-fragments, a .offset))
 
 pub is-unfragmented-spec : {M : Type 1} → statement M
-is-unfragmented-spec = tie.close (tie.spec (λ c κs. search needs) (λ c. search needs) returns-2)
+is-unfragmented-spec = tie.close (tie.spec (λ c κs. search needs) returns returns-2)
