@@ -67,15 +67,15 @@ pub fn is_tcp(packet: &[u8]) -> bool
     if packet.len() < header {
         return false;
     }
-    let segment = &packet[header..];
-    if segment.len() < tcp::HEADER {
+    let size = packet.len() - header;
+    if size < tcp::HEADER {
         return false;
     }
-    let offset = tcp::header_length(segment);
+    let offset = tcp::header_length(&packet[header..]);
     if offset < tcp::HEADER {
         return false;
     }
-    if segment.len() < offset {
+    if size < offset {
         return false;
     }
     sums_with_pseudo_header(packet)

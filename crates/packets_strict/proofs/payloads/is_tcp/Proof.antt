@@ -4,7 +4,7 @@ use Prim.Native.Nat.{ℕ, _-_, _*_, _/_}
 use mathlib.Core.Path.{_≡_, ap, sym, _∙_}
 use mathlib.Core.List.{List}
 use native.Mathlib.Omega.{arith}
-use lib.ListN.{length, take, drop}
+use lib.ListN.{length, take, drop, length-drop}
 use Rattle.base.specs.Bytes.{u8At}
 use Rattle.base.proofs.Telling.{tells-same}
 use Rattle.grammar.specs.Grammar.{TCP, dataOffset, headerLength, payload, protocol}
@@ -23,6 +23,9 @@ module _ (h : tie.After-header-length) where
   carried : protocol packet ≡ 6
   carried = sym (h .before .before .byte-at .ensures) ∙ h .before .if1 .left
 
+  size : length (payload packet) ≡ length packet - h .header-length .result
+  size = omega (arith, h .header-length .ensures .0, length-drop (headerLength packet) packet)
+
 -- and the segment's own header
 module _ (o : tie.After-header-length2) where
   abbrev before-it : tie.After-header-length
@@ -32,7 +35,7 @@ module _ (o : tie.After-header-length2) where
   offset = o .header-length2 .ensures .0 ∙ ap (λ (m : List ℕ). u8At m 12 / 16 * 4) (part before-it)
 
 returns-3 : tie.Need-returns-3
-returns-3 c = λ ip a. omega (arith, ap length (part (c .before .before .before)), a .size)
+returns-3 c = λ ip a. omega (arith, size (c .before .before), a .size)
 
 returns-4 : tie.Need-returns-4
 returns-4 c = λ ip a. omega (arith, offset (c .before), a .least-offset)
@@ -40,7 +43,7 @@ returns-4 c = λ ip a. omega (arith, offset (c .before), a .least-offset)
 returns-5 : tie.Need-returns-5
 returns-5 c =
     let o = c .before .before in
-    λ ip a. omega (arith, offset o, ap length (part (before-it o)), a .inside)
+    λ ip a. omega (arith, offset o, size (before-it o), a .inside)
 
 returns-6 : tie.Need-returns-6
 returns-6 c =
@@ -51,10 +54,10 @@ returns-6 c =
     (λ right.
     record {
       carried = carried h;
-      size = omega (arith, ap length (part h));
+      size = omega (arith, size h);
       least-offset = omega (arith, offset o);
       most-offset = omega (arith, offset o, o .header-length2 .ensures .1);
-      inside = omega (arith, offset o, ap length (part h));
+      inside = omega (arith, offset o, size h);
       sums = right;
     })
     (λ a. a .sums)
@@ -63,5 +66,5 @@ pub is-tcp-spec : {M : Type 1} → statement M
 is-tcp-spec =
     tie.close
     (tie.spec (λ c κs. search needs) (λ c. search needs) (λ c κs. search needs) (λ c. search needs)
-    (λ c. search needs) (λ c. search needs) (λ c. search needs) returns-3 (λ c κs. search needs) returns-4
+    (λ c. search needs) returns-3 (λ c. search needs) (λ c. search needs) (λ c. search needs) (λ c κs. search needs) returns-4
     returns-5 (λ c κs. search needs) returns-6)
