@@ -1,4 +1,4 @@
--- What the proofs of several functions use (`Telling` serves the reader too), and that `read_message` answers once.
+-- What the proofs of several functions use, and that `read_message` answers once.
 mod AllZero
 mod Listing
 mod MessageRead

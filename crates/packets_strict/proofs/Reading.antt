@@ -30,7 +30,7 @@ pub rest : (s : List ℕ) (r h : ℕ) → r ≡ h → take (length s - r) (drop 
 rest s r h e = ap (λ (n : ℕ). take (length s - n) (drop n s)) e ∙ from-on h s
 
 -- a byte and a number of the part behind `h`, read in the whole
-pub byte-behind : (s : List ℕ) (r h n : ℕ) → r ≡ h → u8At s (r + n) ≡ u8At (drop h s) n
+byte-behind : (s : List ℕ) (r h n : ℕ) → r ≡ h → u8At s (r + n) ≡ u8At (drop h s) n
 byte-behind s r h n e = ap (λ (k : ℕ). u8At s (k + n)) e ∙ sym (getD-drop h s n 0)
 
 pub word-behind : (s : List ℕ) (r h n : ℕ) → r ≡ h → u16At s (r + n) ≡ u16At (drop h s) n

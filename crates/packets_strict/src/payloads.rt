@@ -23,10 +23,13 @@ pub fn is_icmp(packet: &[u8]) -> bool
         return false;
     }
     let header = ipv4::header_length(packet, 0);
-    if packet.len() < header + icmp::HEADER {
+    if packet.len() < header {
         return false;
     }
     let message = &packet[header..];
+    if message.len() < icmp::HEADER {
+        return false;
+    }
     sum(0, message) == ipv4::SUMS_RIGHT
 }
 
@@ -37,10 +40,13 @@ pub fn is_udp(packet: &[u8]) -> bool
         return false;
     }
     let header = ipv4::header_length(packet, 0);
-    if packet.len() < header + udp::HEADER {
+    if packet.len() < header {
         return false;
     }
     let datagram = &packet[header..];
+    if datagram.len() < udp::HEADER {
+        return false;
+    }
     if u16be(datagram, udp::LENGTH) as usize != datagram.len() {
         return false;
     }
@@ -58,15 +64,18 @@ pub fn is_tcp(packet: &[u8]) -> bool
         return false;
     }
     let header = ipv4::header_length(packet, 0);
-    if packet.len() < header + tcp::HEADER {
+    if packet.len() < header {
         return false;
     }
-    let segment = &packet[header..];
-    let offset = tcp::header_length(segment);
+    let size = packet.len() - header;
+    if size < tcp::HEADER {
+        return false;
+    }
+    let offset = tcp::header_length(&packet[header..]);
     if offset < tcp::HEADER {
         return false;
     }
-    if segment.len() < offset {
+    if size < offset {
         return false;
     }
     sums_with_pseudo_header(packet)
@@ -79,7 +88,6 @@ fn sums_with_pseudo_header(packet: &[u8]) -> bool
         → Tells r (SumsRight (pseudoHeader (now (packet .entry)) ++ payload (now (packet .entry))))) ⌝ }
 {
     let header = ipv4::header_length(packet, 0);
-    let segment = &packet[header..];
     let pseudo = udp::pseudo_header(
         address_at(packet, ipv4::SOURCE),
         address_at(packet, ipv4::TARGET),
@@ -87,6 +95,7 @@ fn sums_with_pseudo_header(packet: &[u8]) -> bool
         // It wraps where the total length is less than the header's, and so not behind a right header.
         wrapping_sub_u16(u16be(packet, ipv4::TOTAL_LENGTH), header as u16),
     );
+    let segment = &packet[header..];
     sum(sum(0, &pseudo), segment) == ipv4::SUMS_RIGHT
 }
 

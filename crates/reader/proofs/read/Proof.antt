@@ -3,6 +3,7 @@ use borrow.Author.Needs.{needs}
 use Prim.Native.Nat.{ℕ}
 use mathlib.Core.Path.{_≡_, sym, _∙_}
 use mathlib.Core.List.{List}
+use native.Mathlib.Omega.{arith}
 use Rattle.base.proofs.Telling.{rest-not, rest-yes}
 use Rattle.grammar.specs.Grammar.{Ethernet, ARP, IPv4}
 use Rattle.reader.proofs.Answers.{short-frame, no-arp, arp-taken, no-ipv4}
@@ -15,7 +16,7 @@ module _ (k : tie.After-eth-type) where
   frame = k .before .before .before .args .frame .now
 
   ethernet : (type : ℕ) → k .eth-type .result ≡ type → Ethernet frame type
-  ethernet type e = record { whole = k .before .if1 .left; typed = sym (k .eth-type .ensures) ∙ e }
+  ethernet type e = record { whole = omega (arith, k .before .if1 .left); typed = sym (k .eth-type .ensures) ∙ e }
 
 returns : tie.Need-returns
 returns c = short-frame (c .before .before .args .frame .now) (c .if1 .taken)

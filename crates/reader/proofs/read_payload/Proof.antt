@@ -6,7 +6,7 @@ use mathlib.Core.List.{List}
 use native.Mathlib.Omega.{arith}
 use Rattle.base.specs.Bytes.{u8At}
 use Rattle.base.proofs.Telling.{tells-not, tells-yes, rest-not, rest-yes}
-use Rattle.grammar.specs.Grammar.{ICMP, TCP, body}
+use Rattle.grammar.specs.Grammar.{ICMP, TCP}
 use Rattle.reader.specs.helpers.Opened.{Framed, Opened}
 use Rattle.reader.proofs.Answers.{tells-behind, stop-is, payload-is, opened, no-icmp, no-tcp, icmp-taken, tcp-taken, other-taken}
 use Rattle.reader.proofs.read_payload.Statement.{statement}

@@ -7,22 +7,36 @@ use native.Mathlib.Omega.{arith}
 use lib.ListN.{take, length-take}
 use Rattle.sums.specs.Rfc1071.{total, fold}
 use Rattle.grammar.specs.Grammar.{headerLength, Unfragmented}
+use Rattle.base.specs.Tells.{Tells}
 use Rattle.base.proofs.Telling.{tells-not, tells-yes}
 use Rattle.packets_strict.proofs.Reading.{tells-sums}
 use Rattle.packets_strict.proofs.ipv4.is_ipv4.Statement.{statement}
 use Rattle.packets_strict.proofs.ipv4.is_ipv4.Tie as tie
 
+-- where the fragment's test has answered
+module _ (u : tie.After-is-unfragmented) where
+  abbrev header-at : tie.After-header-length
+  header-at = u .before .before .before .before .before
+
+  abbrev packet : List ℕ
+  packet = header-at .before .before .before .before .args .packet .now
+
+  flags : Tells (u .is-unfragmented .result) (Unfragmented packet)
+  flags = u .is-unfragmented .ensures
+
 returns-5 : tie.Need-returns-5
-returns-5 c = λ a. tells-not {A = Unfragmented (c .before .before .before .before .before .before .before .before .before .before .args .packet .now)} (c .before .is-unfragmented .result) (c .before .is-unfragmented .ensures) (c .if5 .taken) (a .unfragmented)
+returns-5 c =
+    let u = c .before in
+    λ a. tells-not (u .is-unfragmented .result) (flags u) (c .if5 .taken) (a .unfragmented)
 
 slice-aggregate-bytes : tie.Need-slice-aggregate-bytes
 slice-aggregate-bytes c = simp length-take (omega arith)
 
 returns-6 : tie.Need-returns-6
 returns-6 c =
-    let s : List ℕ = c .before .before .before .before .before .before .before .before .before .before .before .before .args .packet .now in
-    let header = c .before .before .before .before .before .before .before .before .header-length .ensures in
-    let flags = tells-yes {A = Unfragmented s} (c .before .before .before .is-unfragmented .result) (c .before .before .before .is-unfragmented .ensures) (c .before .before .if5 .left) in
+    let u = c .before .before .before in
+    let s = packet u in
+    let header = header-at u .header-length .ensures in
     tells-sums (c .sum .result) (take (headerLength s) s) (c .sum .ensures ∙ ap (λ (n : ℕ). fold (0 + total (take n s))) (header .0))
     (λ right.
     record {
@@ -31,7 +45,7 @@ returns-6 c =
       most-header = search needs;
       total = search needs;
       inside = search needs;
-      unfragmented = flags;
+      unfragmented = tells-yes (u .is-unfragmented .result) (flags u) (c .before .before .if5 .left);
       sums = right;
     })
     (λ a. a .sums)

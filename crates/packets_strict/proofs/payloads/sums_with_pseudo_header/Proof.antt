@@ -14,13 +14,13 @@ use Rattle.packets_strict.proofs.payloads.sums_with_pseudo_header.Tie a
 
 returns : tie.Need-returns
 returns c =
-    let made = c .before .before .before in
+    let made = c .before .before .before .before in
     let left = made .before in
     let stated = left .before in
     let carried = stated .before in
     let to = carried .before in
     let from = to .before in
-    let h = from .before .before in
+    let h = from .before in
     let p : List ℕ = h .before .before .args .packet .now in
     let header = h .header-length .ensures .0 in
     λ ip.
@@ -37,7 +37,7 @@ returns c =
 pub sums-with-pseudo-header-spec : {M : Type 1} → statement M
 sums-with-pseudo-header-spec =
     tie.close
-    (tie.spec (λ c κs. search needs) (λ c. search needs) (λ c. search needs) (λ c. search needs)
-    (λ c κs. search needs) (λ c κs. search needs) (λ c κs. search needs) (λ c κs. search needs)
-    (λ c. search needs) (λ c κs. search needs) (λ c κs. search needs) (λ c. search needs)
-    (λ c κs. search needs) (λ c κs. search needs) returns)
+    (tie.spec (λ c κs. search needs) (λ c κs. search needs) (λ c κs. search needs) (λ c κs. search needs)
+    (λ c κs. search needs) (λ c. search needs) (λ c κs. search needs) (λ c κs. search needs)
+    (λ c. search needs) (λ c. search needs) (λ c. search needs) (λ c. search needs) (λ c κs. search needs)
+    (λ c κs. search needs) returns)
