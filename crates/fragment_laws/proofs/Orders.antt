@@ -8,7 +8,8 @@ use borrow.Author.Tests.{le-leb}
 use lib.ListN.{length, getD, take, drop}
 use lib.Seq.{getD-take, length-take-le}
 use Rattle.bitmap.specs.Bitmap.{bit}
-use Rattle.fragments.specs.Promises.{Takes, storedPayload}
+use Rattle.fragments.specs.Handing.{storedLength, storedPayload}
+use Rattle.fragments.specs.Promises.{Takes}
 use Rattle.fragments.specs.Rules.{isHeld, knownEnd}
 use Rattle.packets.specs.declared.packet.Datagram.{Datagram}
 use Rattle.fragments.specs.declared.answer.State.the-variants.{Complete}
@@ -87,7 +88,7 @@ module _ (d : Datagram) (end : ℕ) (frames order : List (List ℕ)) (store : St
 
   -- after the last call
   at-last : (calls : List Call) → StoredThenComplete calls → AllTaken d end store order calls → Arrived d end frames calls (leaves store calls)
-  unfolding storedPayload
+  unfolding storedLength storedPayload
   at-last calls answers t = record {
     answers = answers;
     held = t .held;

@@ -3,11 +3,11 @@ use Prim.Native.Nat.{ℕ, _+_, _-_}
 use mathlib.Core.Path.{refl, sym, ap, _∙_}
 use native.Mathlib.Omega.{arith}
 use lib.ListN.{take, drop}
-use Rattle.fragments.specs.Promises.{wholePayload}
+use Rattle.fragments.specs.Handing.{wholePayload}
 use borrow.Author.Needs.{needs}
 use Rattle.packets.proofs.Fitting.{whole-fits}
-use Rattle.fragments.proofs.store.of_frame.Statement.{statement}
-use Rattle.fragments.proofs.store.of_frame.Tie as tie
+use Rattle.fragments.proofs.handing.of_frame.Statement.{statement}
+use Rattle.fragments.proofs.handing.of_frame.Tie as tie
 
 add-stop : tie.Need-add-stop
 add-stop c = let fits = whole-fits (c .before .before .before .before .before .args .frame .now) (c .before .packet .given .0 .0) (c .before .packet .given .0 .1 .0) (sym (c .before .before .before .read .ensures) ∙ c .before .packet .given .1) in search needs
