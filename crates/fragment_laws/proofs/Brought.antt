@@ -1,6 +1,6 @@
 -- Nothing stale: whatever comes into an empty store, each byte of a complete payload was brought by a fit fragment of that datagram. Call by call the store
 -- means what it says.
-use Prim.Native.Nat.{ℕ, _+_, _-_, _*_, _/_, _≤_, _<_}
+use Prim.Native.Nat.{ℕ, _-_, _*_, _/_, _≤_, _<_}
 use mathlib.Core.Path.{_≡_, refl, ap, sym, subst, _∙_}
 use mathlib.Core.Bool.{Bool, true, false, and-eq-true-iff, _||_, cond}
 use mathlib.Core.Logic.{inl, inr}
@@ -28,7 +28,7 @@ use Rattle.packets.proofs.Fitting.{at-block, part-is, ends-at-block}
 use Rattle.fragments.proofs.Ruled.{Stored, stored}
 use Rattle.fragment_laws.specs.Calls.{Store, Sized, Vacant, Call, after, Runs, asks, leaves}
 use Rattle.fragment_laws.specs.Meaning.{Brought, BeforeEnd, Knows, Means, onto}
-use Rattle.fragment_laws.specs.Trains.{Some, piece, Fit, Covers, byteFor, takings}
+use Rattle.fragment_laws.specs.Trains.{Some, piece, Fit, Covers, takings}
 use Rattle.fragment_laws.proofs.Written.{thereWith, Written, written}
 use Rattle.fragment_laws.proofs.Counting.{bit-at-most-1, count-missing}
 use Rattle.fragment_laws.proofs.Storing.{Block, of-it, other, block}

@@ -1,5 +1,5 @@
 -- One call of a train: the next fragment is stored. No block that is there belongs to a fragment to come, and the two together cover the datagram.
-use Prim.Native.Nat.{ℕ, _+_, _-_, _*_, _/_, _≤_, _<_}
+use Prim.Native.Nat.{ℕ, _-_, _*_, _/_, _≤_, _<_}
 use mathlib.Core.Path.{_≡_, refl, ap, sym, subst, _∙_}
 use mathlib.Core.Bool.{Bool, true, false, true≢false, cond}
 use mathlib.Core.Logic.{_⊎_, inl, inr}
@@ -21,7 +21,7 @@ use Rattle.fragments.specs.declared.ruling.Ruling.{Ruling}
 use Rattle.fragments.specs.declared.ruling.Ruling.the-variants as Ruling
 use Rattle.packets.proofs.Fitting.{at-block, part-fits}
 use Rattle.fragment_laws.specs.Calls.{Store, Sized, Call, after}
-use Rattle.fragment_laws.specs.Trains.{All, Some, EachTwo, piece, Fit, Covers, byteFor, Apart, lasts}
+use Rattle.fragment_laws.specs.Trains.{All, Some, EachTwo, piece, Fit, Covers, Apart, lasts}
 use Rattle.fragment_laws.proofs.Counting.{bit-at-most-1, count-none, count-all, count-missing}
 use Rattle.fragment_laws.proofs.Permuting.{all-both}
 use Rattle.fragment_laws.proofs.Storing.{Block, of-it, other, block, having-at-most-1}
