@@ -10,18 +10,19 @@ use Rattle.fragments.proofs.handing.of_frame.Statement.{statement}
 use Rattle.fragments.proofs.handing.of_frame.Tie as tie
 
 add-stop : tie.Need-add-stop
-add-stop c = let fits = whole-fits (c .before .before .before .before .before .args .frame .now) (c .before .packet .given .0 .0) (c .before .packet .given .0 .1 .0) (sym (c .before .before .before .read .ensures) ∙ c .before .packet .given .1) in search needs
+add-stop c = let fits = whole-fits _ _ _ (sym (c .before .before .before .read .ensures) ∙ c .before .packet .given .1) in search needs
 
 part-result-end : tie.Need-part-result-end
-part-result-end c = let fits = whole-fits (c .before .before .before .before .before .args .frame .now) (c .before .packet .given .0 .0) (c .before .packet .given .0 .1 .0) (sym (c .before .before .before .read .ensures) ∙ c .before .packet .given .1) in search needs
+part-result-end c = let fits = whole-fits _ _ _ (sym (c .before .before .before .read .ensures) ∙ c .before .packet .given .1) in search needs
 
 returns : tie.Need-returns
 unfolding wholePayload
-returns c = rw (sym (c .before .before .before .before .read .ensures) ∙ c .before .before .packet .given .1)
-    (ap (λ (k : ℕ). take k (drop (c .before .before .packet .given .0 .0) (c .before .before .before .before .before .before .args .frame .now)))
-    {x = c .before .before .packet .given .0 .0 + c .before .before .packet .given .0 .1 .0 - c .before .before .packet .given .0 .0}
-    {y = c .before .before .packet .given .0 .1 .0}
-    (omega arith))
+returns c =
+    let whole = c .before .before in
+    let start = whole .packet .given .0 .0 in
+    let n = whole .packet .given .0 .1 .0 in
+    rw (sym (whole .before .before .read .ensures) ∙ whole .packet .given .1)
+    (ap (λ (k : ℕ). take k (drop start (whole .before .before .before .before .args .frame .now))) {x = start + n - start} {y = n} (omega arith))
 
 returns-2 : tie.Need-returns-2
 unfolding wholePayload
