@@ -1,6 +1,6 @@
 -- Nothing stale: whatever comes into an empty store, each byte of a complete payload was brought by a fit fragment of that datagram. Call by call the store
 -- means what it says.
-use Prim.Native.Nat.{ℕ, _+_, _-_, _*_, _/_, _≤_, _<_}
+use Prim.Native.Nat.{ℕ, _-_, _*_, _/_, _≤_, _<_}
 use mathlib.Core.Path.{_≡_, refl, ap, sym, subst, _∙_}
 use mathlib.Core.Bool.{Bool, true, false, and-eq-true-iff, _||_, cond}
 use mathlib.Core.Logic.{inl, inr}
@@ -8,19 +8,14 @@ use mathlib.Core.List.{List, [], _∷_}
 use native.Mathlib.Omega.{arith}
 use borrow.Author.Tests.{not-false, eqb-true}
 use lib.Dec.{eqb, ltb}
-use lib.ListN.{length, getD, drop, length-drop}
-use lib.Seq.{getD-take, getD-drop, length-take-le}
+use lib.ListN.{length, drop}
 use Rattle.bitmap.specs.Bitmap.{bit, count, having}
-use Rattle.base.specs.Bytes.{part}
 use Rattle.wire.specs.Rfc894.{body}
-use Rattle.base.specs.Buffer.{put}
-use Rattle.base.proofs.Lists.{length-put}
 use Rattle.fragments.specs.Promises.{Effect, Takes}
 use Rattle.packets.specs.Packets.{packetOf}
 use Rattle.fragments.specs.Rules.{Outcome, blocksOf, firstBlock, stopBlock, sameDatagram, isHeld, knownEnd, wrongEnd, endWith, ruling, settled, outcomeOf}
 use Rattle.packets.specs.Packets.{endOf}
 use Rattle.fragments.specs.Answer as Answer
-use Rattle.fragments.specs.declared.answer.Answer.{Answer}
 use Rattle.packets.specs.declared.packet.Datagram.{Datagram}
 use Rattle.fragments.specs.declared.answer.End.{End}
 use Rattle.fragments.specs.declared.answer.End.the-variants.{Unknown, At}
@@ -29,15 +24,14 @@ use Rattle.fragments.specs.declared.answer.State.the-variants.{Empty, Filling, 
 use Rattle.packets.specs.declared.packet.Fragment.{Fragment}
 use Rattle.fragments.specs.declared.ruling.Ruling.{Ruling}
 use Rattle.fragments.specs.declared.ruling.Ruling.the-variants as Ruling
-use Rattle.packets.proofs.Fitting.{at-block, part-is, part-fits, ends-at-block}
+use Rattle.packets.proofs.Fitting.{at-block, part-is, ends-at-block}
 use Rattle.fragments.proofs.Ruled.{Stored, stored}
-use Rattle.fragments.proofs.Storing.{marked}
 use Rattle.fragment_laws.specs.Calls.{Store, Sized, Vacant, Call, after, Runs, asks, leaves}
 use Rattle.fragment_laws.specs.Meaning.{Brought, BeforeEnd, Knows, Means, onto}
-use Rattle.fragment_laws.specs.Trains.{Some, piece, Fit, Covers, byteFor, takings}
-use Rattle.fragment_laws.proofs.Coming.{thereWith}
+use Rattle.fragment_laws.specs.Trains.{Some, piece, Fit, Covers, takings}
+use Rattle.fragment_laws.proofs.Written.{thereWith, Written, written}
 use Rattle.fragment_laws.proofs.Counting.{bit-at-most-1, count-missing}
-use Rattle.fragment_laws.proofs.Storing.{byte-put, byte-beside, Block, of-it, other, block}
+use Rattle.fragment_laws.proofs.Storing.{Block, of-it, other, block}
 use Rattle.fragment_laws.proofs.Leaving.{takes}
 
 -- what holds of some still does
@@ -82,25 +76,8 @@ earlier f there Unknown place t e right h = tt
 earlier f there (At n) place true e right h = let w : (true || ltb n (endOf f)) ≡ false = rw e at right in let z : _≡_ {A = ℕ} 0 1 = cc in absurd (omega arith)
 earlier f there (At n) place false e right h = h
 
--- a fragment is stored
-module _ (store : Store) (sized : Sized store) (frame : List ℕ) (call : Call) (fit : Fit frame)
-    (wrote : call .bytes ≡ put (piece frame .offset) (part frame (piece frame .start) (piece frame .length)) (store .bytes))
-    (each-bit : (b : ℕ) → bit (call .bits) b ≡ having (bit (store .bits)) (firstBlock (piece frame)) (stopBlock (piece frame)) b) where
-  -- its payload is as long as its header says, and fits
-  payload-long : length (part frame (piece frame .start) (piece frame .length)) ≡ piece frame .length
-  payload-long = length-take-le _ _ (omega (arith, length-drop (piece frame .start) frame, part-fits frame (piece frame) fit .in-frame))
-
-  fits : piece frame .offset + length (part frame (piece frame .start) (piece frame .length)) ≤ length (store .bytes)
-  fits = omega (arith, payload-long, sized .bytes-lent, part-fits frame (piece frame) fit .short)
-
-  -- it brings the places that it covers
-  brings : (place : ℕ) → Covers place frame → getD (call .bytes) place 0 ≡ byteFor place frame
-  brings place h =
-      ap (λ (l : List ℕ). getD l place 0) wrote
-      ∙ byte-put (piece frame .offset) _ (store .bytes) fits place (h .0) (omega (arith, payload-long, h .1))
-      ∙ getD-take (piece frame .length) (drop (piece frame .start) frame) (place - piece frame .offset) 0 (omega (arith, h .0, h .1))
-      ∙ getD-drop (piece frame .start) frame (place - piece frame .offset) 0
-
+-- a fragment is written
+module _ (store : Store) (frame : List ℕ) (call : Call) (fit : Fit frame) (w : Written store frame call) where
   -- what is known then
   next : (k : End) (came : List (List ℕ)) → wrongEnd (piece frame) k (bit (store .bits)) ≡ false → Knows (piece frame .datagram) k (store .bytes) (store .bits) came
       → Knows (piece frame .datagram) (endWith (piece frame) k) (call .bytes) (call .bits) (frame ∷ came)
@@ -108,14 +85,12 @@ module _ (store : Store) (sized : Sized store) (frame : List ℕ) (call : Call) 
   next k came right knows place there h = go (block (bit (store .bits)) (firstBlock (piece frame)) (stopBlock (piece frame)) (place / 8))
     where
       go : Block (bit (store .bits)) (firstBlock (piece frame)) (stopBlock (piece frame)) (place / 8) → Some (Brought (piece frame .datagram) (call .bytes) place) (frame ∷ came)
-      go (of-it l u e) = let c = covers frame fit k place (piece frame .last) refl h l u in inl (record { fit = fit; of-it = refl; covers = c; byte = brings place c })
+      go (of-it l u e) = let c = covers frame fit k place (piece frame .last) refl h l u in inl (record { fit = fit; of-it = refl; covers = c; byte = w .covered place c })
       go (other out e) =
-          let kept : getD (call .bytes) place 0 ≡ getD (store .bytes) place 0 =
-          ap (λ (l : List ℕ). getD l place 0) wrote
-          ∙ byte-beside (piece frame .offset) _ (store .bytes) fits place (λ l. omega (arith, payload-long, out (omega arith))) in
+          let kept = w .beside place (λ l. omega (arith, out (omega arith))) in
           inr (some-map (Brought (piece frame .datagram) (store .bytes) place) (Brought (piece frame .datagram) (call .bytes) place)
           (λ g b. record { fit = b .fit; of-it = b .of-it; covers = b .covers; byte = kept ∙ b .byte }) came
-          (knows place (sym e ∙ sym (each-bit (place / 8)) ∙ there) (earlier (piece frame) (bit (store .bits)) k place (piece frame .last) refl right h)))
+          (knows place (sym e ∙ sym (w .each-bit (place / 8)) ∙ there) (earlier (piece frame) (bit (store .bits)) k place (piece frame .last) refl right h)))
 
 -- what a settled store means
 settles : (d : Datagram) (end : End) (there : ℕ → ℕ) (bytes bits : List ℕ) (came : List (List ℕ)) → ((b : ℕ) → bit bits b ≡ there b)
@@ -153,16 +128,12 @@ module _ (store : Store) (sized : Sized store) (frame : List ℕ) (call : Call) 
           → Means (settled (piece frame .datagram) end (thereWith store frame) .state) (call .bytes) (call .bits) (frame ∷ came) × Sized (after call)
       own fs effect =
           let fit : Fit frame = fs .is-part in
-          let each-bit : (b : ℕ) → bit (call .bits) b ≡ thereWith store frame b =
-          λ b. ap (λ (there : ℕ → ℕ). there b) (marked (piece frame) (store .bits) (call .bits) (part-fits frame (piece frame) fit .short) (sized .bits-lent) (effect .1)) in
+          let w = written store frame call end sized fit effect in
           let known = before (store .state) (piece frame .datagram) (store .bytes) (store .bits) came (fs .free) m in
-          let then = next store sized frame call fit (effect .0) each-bit (knownEnd (store .state)) came (fs .right-end) known in
+          let then = next store frame call fit w (knownEnd (store .state)) came (fs .right-end) known in
           let ends = subst (λ (k : End). Knows (piece frame .datagram) k (call .bytes) (call .bits) (frame ∷ came)) (fs .ends) then in (
-            settles (piece frame .datagram) end (thereWith store frame) (call .bytes) (call .bits) (frame ∷ came) each-bit ends,
-            record {
-              bytes-lent = ap length (effect .0) ∙ length-put (piece frame .offset) _ (store .bytes) (fits store sized frame call fit (effect .0) each-bit) ∙ sized .bytes-lent;
-              bits-lent = effect .1 .as-long ∙ sized .bits-lent;
-            },
+            settles (piece frame .datagram) end (thereWith store frame) (call .bytes) (call .bits) (frame ∷ came) (w .each-bit) ends,
+            w .still-sized,
           )
 
   -- whatever is done with it

@@ -1,17 +1,14 @@
 -- One call of a train: the next fragment is stored. No block that is there belongs to a fragment to come, and the two together cover the datagram.
-use Prim.Native.Nat.{ℕ, _+_, _-_, _*_, _/_, _≤_, _<_}
+use Prim.Native.Nat.{ℕ, _-_, _*_, _/_, _≤_, _<_}
 use mathlib.Core.Path.{_≡_, refl, ap, sym, subst, _∙_}
 use mathlib.Core.Bool.{Bool, true, false, true≢false, cond}
 use mathlib.Core.Logic.{_⊎_, inl, inr}
 use mathlib.Core.List.{List, [], _∷_}
 use native.Mathlib.Omega.{arith}
 use borrow.Author.Tests.{le-ltb, eq-eqb, ne-eqb}
-use lib.ListN.{length, getD, drop, length-drop}
-use lib.Seq.{getD-take, getD-drop, length-take-le}
-use Rattle.bitmap.specs.Bitmap.{bit, count, having}
-use Rattle.base.specs.Bytes.{part}
+use lib.ListN.{length, getD}
+use Rattle.bitmap.specs.Bitmap.{bit, count}
 use Rattle.wire.specs.Rfc894.{body}
-use Rattle.base.proofs.Lists.{length-put}
 use Rattle.fragments.specs.Answer.{stored, complete, saidFor}
 use Rattle.fragments.specs.Promises.{Effect, Takes}
 use Rattle.fragments.specs.Rules.{Outcome, ofSize, blocksOf, firstBlock, stopBlock, sameDatagram, isHeld, knownEnd, overlaps, wrongEnd, endWith, partRuling, packetRuling, ruling, settled, outcomeOf}
@@ -23,12 +20,12 @@ use Rattle.fragments.specs.declared.answer.State.the-variants.{Filling, Complet
 use Rattle.fragments.specs.declared.ruling.Ruling.{Ruling}
 use Rattle.fragments.specs.declared.ruling.Ruling.the-variants as Ruling
 use Rattle.packets.proofs.Fitting.{at-block, part-fits}
-use Rattle.fragments.proofs.Storing.{marked}
 use Rattle.fragment_laws.specs.Calls.{Store, Sized, Call, after}
-use Rattle.fragment_laws.specs.Trains.{All, Some, EachTwo, piece, Fit, Covers, byteFor, Apart, lasts}
+use Rattle.fragment_laws.specs.Trains.{All, Some, EachTwo, piece, Fit, Covers, Apart, lasts}
 use Rattle.fragment_laws.proofs.Counting.{bit-at-most-1, count-none, count-all, count-missing}
 use Rattle.fragment_laws.proofs.Permuting.{all-both}
-use Rattle.fragment_laws.proofs.Storing.{byte-put, byte-beside, Block, of-it, other, block, having-at-most-1}
+use Rattle.fragment_laws.proofs.Storing.{Block, of-it, other, block, having-at-most-1}
+use Rattle.fragment_laws.proofs.Written.{thereWith, Written, written}
 
 -- a fragment to come: fit, of the datagram and within it, and none of its blocks is there
 pub record Awaited (d : Datagram) (end : ℕ) (bits frame : List ℕ) : Type 0 where
@@ -83,10 +80,6 @@ module _ (end : ℕ) (frame : List ℕ) (todo : List (List ℕ)) where
       go true e (At end′) h = absurd (omega (arith, rw e at (h .1)))
       go false e Unknown h = is-not (h .0) (h .1) e
       go false e (At end′) h = (h .0, omega (arith, rw e at (h .1)))
-
--- what the next fragment makes of the blocks that are there
-abbrev pub thereWith : Store → (frame : List ℕ) → ℕ → ℕ
-thereWith store frame = having (bit (store .bits)) (firstBlock (piece frame)) (stopBlock (piece frame))
 
 -- a block is one of the fragment's or another
 abbrev BlockWith : Store → (frame : List ℕ) (b : ℕ) → Type 0
@@ -151,51 +144,23 @@ module _ (d : Datagram) (end : ℕ) (store : Store) (frame : List ℕ) (todo : L
     unfolding outcomeOf
     came = rw (rules, c .awaited .0 .name)
 
-    -- what it does to the store
-    effect : Effect (Ruling.Write (piece frame) (endWith (piece frame) (knownEnd (store .state)))) frame (store .bytes) (store .bits) (call .bytes) (call .bits)
-    effect = subst (λ (r : Ruling). Effect r frame (store .bytes) (store .bits) (call .bytes) (call .bits)) rules (t .store)
-
-    -- the bits, one by one
-    bits-after : (b : ℕ) → bit (call .bits) b ≡ thereWith store frame b
-    bits-after b =
-        ap (λ (there : ℕ → ℕ). there b)
-        (marked (piece frame) (store .bits) (call .bits) (part-fits frame (piece frame) (c .awaited .0 .fit) .short) (c .sized .bits-lent) (effect .1))
-
-    -- the payload is as long as its header says
-    payload-long : length (part frame (piece frame .start) (piece frame .length)) ≡ piece frame .length
-    payload-long = length-take-le _ _ (omega (arith, length-drop (piece frame .start) frame, part-fits frame (piece frame) (c .awaited .0 .fit) .in-frame))
-
-    -- and has room in the store
-    fits : piece frame .offset + length (part frame (piece frame .start) (piece frame .length)) ≤ length (store .bytes)
-    fits = omega (arith, payload-long, c .sized .bytes-lent, part-fits frame (piece frame) (c .awaited .0 .fit) .short)
-
-    -- which stays as large
-    pub still-sized : Sized (after call)
-    still-sized = record {
-      bytes-lent = ap length (effect .0) ∙ length-put (piece frame .offset) _ (store .bytes) fits ∙ c .sized .bytes-lent;
-      bits-lent = effect .1 .as-long ∙ c .sized .bits-lent;
-    }
-
-    -- a byte that it covers
-    pub byte-stored : (place : ℕ) → Covers place frame → getD (call .bytes) place 0 ≡ byteFor place frame
-    byte-stored place h =
-        ap (λ (l : List ℕ). getD l place 0) (effect .0)
-        ∙ byte-put (piece frame .offset) _ (store .bytes) fits place (h .0) (omega (arith, payload-long, h .1))
-        ∙ getD-take (piece frame .length) (drop (piece frame .start) frame) (place - piece frame .offset) 0 (omega (arith, h .0, h .1))
-        ∙ getD-drop (piece frame .start) frame (place - piece frame .offset) 0
+    -- what it leaves
+    pub left-so : Written store frame call
+    left-so =
+        written store frame call (endWith (piece frame) (knownEnd (store .state))) (c .sized) (c .awaited .0 .fit)
+        (subst (λ (r : Ruling). Effect r frame (store .bytes) (store .bits) (call .bytes) (call .bits)) rules (t .store))
 
     -- a byte whose block is there
     pub byte-kept : (place : ℕ) → bit (store .bits) (place / 8) ≡ 1 → getD (call .bytes) place 0 ≡ getD (store .bytes) place 0
     unfolding blocksOf
     byte-kept place there =
-        ap (λ (l : List ℕ). getD l place 0) (effect .0)
-        ∙ byte-beside (piece frame .offset) _ (store .bytes) fits place (λ l.
+        left-so .beside place (λ l.
         let out : ¬ (place < endOf (piece frame)) = λ u. omega (arith, c .awaited .0 .absent (place / 8) (omega arith) (omega arith)) in
-        omega (arith, payload-long))
+        omega arith)
 
     -- a block that is there stays
     pub block-kept : (b : ℕ) → bit (store .bits) b ≡ 1 → bit (call .bits) b ≡ 1
-    block-kept b there = bits-after b ∙ go (block _ _ _ b)
+    block-kept b there = left-so .each-bit b ∙ go (block _ _ _ b)
       where
         go : BlockWith store frame b → thereWith store frame b ≡ 1
         go (of-it l u e) = e
@@ -204,7 +169,7 @@ module _ (d : Datagram) (end : ℕ) (store : Store) (frame : List ℕ) (todo : L
     -- the fragment's own come
     pub block-come : (place : ℕ) → Covers place frame → bit (call .bits) (place / 8) ≡ 1
     unfolding blocksOf
-    block-come place h = bits-after (place / 8) ∙ go (block _ _ _ (place / 8))
+    block-come place h = left-so .each-bit (place / 8) ∙ go (block _ _ _ (place / 8))
       where
         go : BlockWith store frame (place / 8) → thereWith store frame (place / 8) ≡ 1
         go (of-it l u e) = e
@@ -226,7 +191,7 @@ module _ (d : Datagram) (end : ℕ) (store : Store) (frame : List ℕ) (todo : L
       fit = w .fit;
       name = w .name;
       within = w .within;
-      absent = λ b l u. bits-after b ∙ go b l u apart (block _ _ _ b);
+      absent = λ b l u. left-so .each-bit b ∙ go b l u apart (block _ _ _ b);
     }
       where
         go : (b : ℕ) → firstBlock (piece g) ≤ b → b < stopBlock (piece g) → Apart frame g
@@ -239,12 +204,12 @@ module _ (d : Datagram) (end : ℕ) (store : Store) (frame : List ℕ) (todo : L
     next-coming : call .taken .state ≡ Filling d (endWith (piece frame) (knownEnd (store .state))) → Coming d end (after call) todo
     unfolding isHeld knownEnd blocksOf
     next-coming state = record {
-      sized = still-sized;
+      sized = left-so .still-sized;
       free = rw (state, same-as-itself d);
       known = rw state (next-end end frame todo (knownEnd (store .state)) (c .known));
       awaited = all-both (Awaited d end (store .bits)) (Apart frame) (Awaited d end (call .bits)) still-awaited todo (c .awaited .1) (c .apart .0);
       apart = c .apart .1;
-      before-end = λ b there. within b (sym (bits-after b) ∙ there) (block _ _ _ b);
+      before-end = λ b there. within b (sym (left-so .each-bit b) ∙ there) (block _ _ _ b);
       covered = still-covered;
     }
       where
@@ -260,7 +225,7 @@ module _ (d : Datagram) (end : ℕ) (store : Store) (frame : List ℕ) (todo : L
         (t .answers ∙ ap (λ (o : Outcome). o .said) done, t .next ∙ ap (λ (o : Outcome). o .state) done)
       where
         there : (b : ℕ) → b * 8 < end → thereWith store frame b ≡ 1
-        there b h = sym (bits-after b) ∙ go (still-covered (b * 8) h)
+        there b h = sym (left-so .each-bit b) ∙ go (still-covered (b * 8) h)
           where
             go : (bit (call .bits) (b * 8 / 8) ≡ 1) ⊎ Some (Covers (b * 8)) todo → bit (call .bits) b ≡ 1
             go (inl there) = subst (λ (k : ℕ). bit (call .bits) k ≡ 1) (omega arith) there
@@ -274,5 +239,5 @@ module _ (d : Datagram) (end : ℕ) (store : Store) (frame : List ℕ) (todo : L
         let absent = still-awaited g w apart .absent (firstBlock (piece g)) (omega arith) (omega arith) in
         let at-most-1 : (b : ℕ) → thereWith store frame b ≤ 1 = λ b. having-at-most-1 _ _ _ b (bit-at-most-1 (store .bits) b) in
         let known = next-end end frame todo _ (c .known) in
-        let more = came ∙ stored-before d end (thereWith store frame) todo at-most-1 (firstBlock (piece g)) (omega (arith, w .within)) (sym (bits-after _) ∙ absent) _ known in
+        let more = came ∙ stored-before d end (thereWith store frame) todo at-most-1 (firstBlock (piece g)) (omega (arith, w .within)) (sym (left-so .each-bit _) ∙ absent) _ known in
         (t .answers ∙ ap (λ (o : Outcome). o .said) more, next-coming (t .next ∙ ap (λ (o : Outcome). o .state) more))

@@ -1,6 +1,7 @@
 pub mod Permuting
 pub mod Counting
 pub mod Storing
+pub mod Written
 pub mod Coming
 pub mod Leaving
 pub mod Orders

@@ -8,7 +8,8 @@ use borrow.Author.Tests.{le-leb}
 use lib.ListN.{length, getD, take, drop}
 use lib.Seq.{getD-take, length-take-le}
 use Rattle.bitmap.specs.Bitmap.{bit}
-use Rattle.fragments.specs.Promises.{Takes, storedPayload}
+use Rattle.fragments.specs.Handing.{storedLength, storedPayload}
+use Rattle.fragments.specs.Promises.{Takes}
 use Rattle.fragments.specs.Rules.{isHeld, knownEnd}
 use Rattle.packets.specs.declared.packet.Datagram.{Datagram}
 use Rattle.fragments.specs.declared.answer.State.the-variants.{Complete}
@@ -17,7 +18,7 @@ use Rattle.fragment_laws.specs.Calls.{Store, Vacant, taking, Call, after
 use Rattle.fragment_laws.specs.Trains.{Permuted, All, piece, Fit, Covers, byteFor, Apart, Train, takings, StoredThenComplete, Among, none, its-own, passing, Arrived, EveryOrder}
 use Rattle.fragment_laws.proofs.Leaving.{takes, passes-by}
 use Rattle.fragment_laws.proofs.Permuting.{permuted-back, all-permuted, some-permuted, each-two-permuted, lasts-permuted, all-both, all-some}
-use Rattle.fragment_laws.proofs.Coming.{Awaited, LastAt, Coming, still-sized, byte-stored, byte-kept, block-kept, block-come, complete-now, stored-now}
+use Rattle.fragment_laws.proofs.Coming.{Awaited, LastAt, Coming, left-so, byte-kept, block-kept, block-come, complete-now, stored-now}
 
 -- what the calls leave that take all fragments to come: the state, and each byte that was there or has come
 record AllTaken (d : Datagram) (end : ℕ) (store : Store) (todo : List (List ℕ)) (calls : List Call) : Type 0 where
@@ -35,7 +36,7 @@ module _ (d : Datagram) (end : ℕ) where
     held = rest .held;
     lent = rest .lent;
     kept = λ place there. rest .kept place (block-kept d end store frame todo c call t (place / 8) there) ∙ byte-kept d end store frame todo c call t place there;
-    come = (λ place h. rest .kept place (block-come d end store frame todo c call t place h) ∙ byte-stored d end store frame todo c call t place h, rest .come);
+    come = (λ place h. rest .kept place (block-come d end store frame todo c call t place h) ∙ left-so d end store frame todo c call t .covered place h, rest .come);
   }
 
   -- all calls, one after the other
@@ -45,7 +46,7 @@ module _ (d : Datagram) (end : ℕ) where
   all-taken frame [] store (call ∷ []) c r e =
       let t = takes store frame call (cc) (r .0) in
       let now = complete-now d end store frame [] c call t refl (λ place none. none) in
-      let done : AllTaken d end (after call) [] [] = record { held = now .1; lent = still-sized d end store frame [] c call t .bytes-lent; kept = λ place there. refl; come = tt } in
+      let done : AllTaken d end (after call) [] [] = record { held = now .1; lent = left-so d end store frame [] c call t .still-sized .bytes-lent; kept = λ place there. refl; come = tt } in
       (now .0, and-then store frame [] c call t [] done)
   all-taken frame [] store (call ∷ next ∷ calls) c r e = absurd (omega (arith, ap length e))
   all-taken frame (g ∷ todo) store [] c r e = absurd (omega (arith, ap length e))
@@ -87,7 +88,7 @@ module _ (d : Datagram) (end : ℕ) (frames order : List (List ℕ)) (store : St
 
   -- after the last call
   at-last : (calls : List Call) → StoredThenComplete calls → AllTaken d end store order calls → Arrived d end frames calls (leaves store calls)
-  unfolding storedPayload
+  unfolding storedLength storedPayload
   at-last calls answers t = record {
     answers = answers;
     held = t .held;

@@ -9,7 +9,7 @@ use borrow.Author.Tests.{eq-eqb}
 use lib.ListN.{length, getD, drop, replicate, length-replicate}
 use Rattle.bitmap.specs.Bitmap.{bit}
 use Rattle.fragments.specs.Answer.{complete, released, saidFor}
-use Rattle.fragments.specs.Promises.{storedPayload, payloadOf}
+use Rattle.fragments.specs.Handing.{siteOf, storedPayload, payloadAt, payloadOf}
 use Rattle.fragments.specs.Rules.{ofSize, isHeld, partRuling, packetRuling, ruling, outcomeOf}
 use Rattle.fragments.specs.declared.answer.Answer.{Answer}
 use Rattle.fragments.specs.declared.answer.Answer.the-variants as Answer
@@ -48,7 +48,7 @@ module _ (d : Datagram) (n : ℕ) where
 
 -- the payload that is handed out on complete is the stored one
 pub handed-out : (a : Answer) (s : State) (frame bytes : List ℕ) → saidFor a ≡ complete → payloadOf a s frame bytes ≡ storedPayload bytes s
-unfolding saidFor payloadOf
+unfolding saidFor siteOf payloadAt
 handed-out a s frame bytes e = ap (λ (x : Answer). payloadOf x s frame bytes) (said-one-to-one a Answer.Complete e)
 
 -- a bitmap of zeros

@@ -11,7 +11,7 @@ use lib.ListN.{length, getD}
 use Rattle.base.specs.Runs.{each}
 use Rattle.wire.specs.Rfc894.{body}
 use Rattle.fragments.specs.Answer.{stored, complete, refused, saidFor}
-use Rattle.fragments.specs.Promises.{storedPayload}
+use Rattle.fragments.specs.Handing.{storedPayload}
 use Rattle.packets.specs.Packets.{packetOf, fragmentOf}
 use Rattle.packets.specs.Packets.{endOf}
 use Rattle.packets.specs.declared.packet.Datagram.{Datagram}

@@ -16,7 +16,6 @@ use Rattle.fragments.specs.declared.answer.State.{State}
 use Rattle.packets.specs.declared.packet.Fragment.{Fragment}
 use Rattle.packets.specs.declared.packet.Packet.{Packet}
 use Rattle.packets.specs.declared.packet.Packet.the-variants.{Unfit, Whole, Part}
-use Rattle.fragments.specs.declared.ruling.Ruling.{Ruling}
 use Rattle.fragments.specs.declared.ruling.Ruling.the-variants.{Refuse, Write}
 
 -- a refusal is no ruling to write

@@ -1,25 +1,17 @@
 -- What each call on a store promises: the answer, the state, every byte and every bit, for a store of any size, any frame and any state.
 use Prim.Native.Nat.{ℕ}
 use mathlib.Core.Path.{_≡_}
-use mathlib.Core.List.{List, []}
-use lib.Dec.{leb}
-use lib.ListN.{length, take, replicate}
+use mathlib.Core.List.{List}
+use lib.ListN.{length, replicate}
 use Rattle.bitmap.specs.Bitmap.{bit, Marked}
 use Rattle.base.specs.Bytes.{part}
 use Rattle.base.specs.Buffer.{put}
 use mathlib.Core.Bool.{cond}
 use Rattle.fragments.specs.Answer.{released, refused, saidFor}
-use Rattle.packets.specs.Packets.{packetOf}
 use Rattle.fragments.specs.Rules.{ofSize, ruling, outcomeOf, firstBlock, stopBlock}
-use Rattle.fragments.specs.declared.answer.Answer.{Answer}
-use Rattle.fragments.specs.declared.answer.Answer.the-variants as Answer
-use Rattle.packets.specs.declared.packet.Datagram.{Datagram}
-use Rattle.fragments.specs.declared.answer.End.{End}
 use Rattle.fragments.specs.declared.answer.State.{State}
-use Rattle.fragments.specs.declared.answer.State.the-variants.{Empty, Filling, Complete}
+use Rattle.fragments.specs.declared.answer.State.the-variants.{Empty}
 use Rattle.fragments.specs.declared.answer.Taken.{Taken}
-use Rattle.packets.specs.declared.packet.Packet.{Packet}
-use Rattle.packets.specs.declared.packet.Packet.the-variants.{Unfit, Whole, Part}
 use Rattle.fragments.specs.declared.ruling.Ruling.{Ruling}
 use Rattle.fragments.specs.declared.ruling.Ruling.the-variants.{Refuse, Pass, Write}
 
@@ -44,29 +36,6 @@ pub record Does (ruling : Ruling) (state : State) (frame bytes bits bytes′ bit
 -- the call that takes a frame
 abbrev pub Takes : State → (frame bytes bits bytes′ bits′ : List ℕ) → Taken → Type 0
 Takes state frame bytes bits bytes′ bits′ taken = Does (ruling state frame (length bytes) bits) state frame bytes bits bytes′ bits′ taken
-
--- the payload of a whole datagram, in its frame
-unfoldable pub wholePayload : (frame : List ℕ) → Packet → List ℕ
-wholePayload frame (Whole start length) = part frame start length
-wholePayload frame Unfit = []
-wholePayload frame (Part f) = []
-
--- the payload of a complete one, in the store; a state that tells more bytes than are lent hands out none
-unfoldable pub storedPayload : (bytes : List ℕ) → State → List ℕ
-storedPayload bytes (Complete datagram n) = cond (leb n (length bytes)) (take n bytes) []
-storedPayload bytes Empty = []
-storedPayload bytes (Filling datagram end) = []
-
--- "the payload handed out is a part of the guest's frame or a part of the store"; other answers hand out none
-unfoldable pub payloadOf : Answer → State → (frame bytes : List ℕ) → List ℕ
-payloadOf Answer.Passed state frame bytes = wholePayload frame (packetOf frame)
-payloadOf Answer.Complete state frame bytes = storedPayload bytes state
-payloadOf Answer.Stored state frame bytes = []
-payloadOf Answer.Released state frame bytes = []
-payloadOf Answer.Unfit state frame bytes = []
-payloadOf Answer.Held state frame bytes = []
-payloadOf Answer.Overlap state frame bytes = []
-payloadOf Answer.WrongEnd state frame bytes = []
 
 -- "a release at any time empties the store for the next, or gets 10 where it is lent at another size": no bit is left
 pub record Releases (state : State) (bytes bits bits′ : List ℕ) (taken : Taken) : Type 0 where

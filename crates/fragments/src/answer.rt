@@ -30,3 +30,10 @@ pub struct Taken {
     pub answer: Answer,
     pub state: State,
 }
+
+// Where the payload lies that an answer hands out.
+pub enum Site {
+    Frame,
+    Store,
+    Nowhere,
+}

@@ -4,14 +4,18 @@
 // state get an answer. A refusal leaves bytes, bits and state as they were. A new store is emptied by
 // `release`, whatever it holds.
 mod answer;
+mod handing;
 mod ruling;
 mod store;
 
 pub use answer::Answer;
 pub use answer::End;
+pub use answer::Site;
 pub use answer::State;
 pub use answer::Taken;
+pub use handing::payload;
+pub use handing::site_of;
+pub use handing::stored_length;
 pub use packets::Datagram;
-pub use store::payload;
 pub use store::release;
 pub use store::take;

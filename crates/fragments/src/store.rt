@@ -1,16 +1,12 @@
-// The calls on a store: a frame is taken, the payload handed out, the store released.
+// The calls that change a store: a frame is taken, the store released.
 ghost use mathlib.Core.Path.{_≡_};
 ghost use Prim.Native.Nat.{_+_, _≤_};
-ghost use mathlib.Core.List.{[]};
-ghost use lib.Dec.{leb};
-ghost use lib.ListN.{length, take};
-ghost use mathlib.Core.Bool.{cond};
+ghost use lib.ListN.{length};
 ghost use Rattle.bitmap.specs.Bitmap.{bit, having};
-ghost use Rattle.packets.specs.Packets.{packetOf};
 ghost use Rattle.fragments.specs.Rules.{firstBlock, stopBlock};
 ghost use Rattle.packets.specs.Packets.{endOf};
 ghost use Rattle.fragments.specs.helpers.Settling.{Settles};
-ghost use Rattle.fragments.specs.Promises.{Takes, Effect, Releases, wholePayload, storedPayload, payloadOf};
+ghost use Rattle.fragments.specs.Promises.{Takes, Effect, Releases};
 use crate::answer::Answer;
 use crate::answer::End;
 use crate::answer::State;
@@ -23,8 +19,6 @@ use crate::ruling::rule;
 use base::put;
 use packets::Datagram;
 use packets::Fragment;
-use packets::Packet;
-use packets::read;
 
 // Takes a guest's frame into its store.
 pub fn take(state: State, frame: &[u8], bytes: &mut [u8], bits: &mut [u64]) -> Taken
@@ -87,66 +81,6 @@ fn filling(datagram: Datagram, end: End) -> Taken
         answer: Answer::Stored,
         state: State::Filling { datagram, end },
     }
-}
-
-// The payload, as a part of the frame that passed or of the store that is complete; for every other
-// answer an empty part. It goes by the answer: a host that takes other frames before it uses the payload
-// keeps the `Taken` that said complete, or makes one with that answer and the state.
-pub fn payload<'a>(taken: Taken, frame: &'a [u8], bytes: &'a [u8]) -> &'a [u8]
-    ensures { λ r. ⌜ now r ≡ payloadOf (taken .answer) (taken .state) (now (frame .entry)) (now (bytes .entry)) ⌝ }
-{
-    let answer = taken.answer;
-    let state = taken.state;
-    match answer {
-        Answer::Passed => of_frame(frame),
-        Answer::Complete => of_store(state, bytes),
-        Answer::Stored => &frame[..0],
-        Answer::Released => &frame[..0],
-        Answer::Unfit => &frame[..0],
-        Answer::Held => &frame[..0],
-        Answer::Overlap => &frame[..0],
-        Answer::WrongEnd => &frame[..0],
-    }
-}
-
-fn of_frame(frame: &[u8]) -> &[u8]
-    ensures { λ r. ⌜ now r ≡ wholePayload (now (frame .entry)) (packetOf (now (frame .entry))) ⌝ }
-{
-    let packet = read(frame);
-    match packet {
-        Packet::Whole { start, length } => {
-            let stop = start + length;
-            &frame[start..stop]
-        }
-        Packet::Unfit => &frame[..0],
-        Packet::Part(_) => &frame[..0],
-    }
-}
-
-fn of_store(state: State, bytes: &[u8]) -> &[u8]
-    ensures { λ r. ⌜ now r ≡ storedPayload (now (bytes .entry)) state ⌝ }
-{
-    match state {
-        State::Complete {
-            datagram: _,
-            length,
-        } => first(bytes, length as usize),
-        State::Empty => &bytes[..0],
-        State::Filling {
-            datagram: _,
-            end: _,
-        } => &bytes[..0],
-    }
-}
-
-// The first `n` bytes; none where there are fewer.
-fn first(bytes: &[u8], n: usize) -> &[u8]
-    ensures { λ r. ⌜ now r ≡ cond (leb n (length (now (bytes .entry)))) (take n (now (bytes .entry))) [] ⌝ }
-{
-    if bytes.len() < n {
-        return &bytes[..0];
-    }
-    &bytes[..n]
 }
 
 // Empties the store.

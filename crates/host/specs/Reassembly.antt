@@ -4,7 +4,8 @@ use mathlib.Core.Path.{_≡_}
 use mathlib.Core.List.{List}
 use lib.ListN.{length, getD}
 use Rattle.base.specs.Bytes.{part}
-use Rattle.fragments.specs.Promises.{Takes, Releases, payloadOf}
+use Rattle.fragments.specs.Handing.{payloadOf}
+use Rattle.fragments.specs.Promises.{Takes, Releases}
 use Rattle.fragments.specs.declared.answer.Taken.{Taken}
 use Rattle.store_words.specs.Reports.{Reports, placeOf, placedIn}
 use Rattle.store_words.specs.Words.{stateOf}

@@ -6,7 +6,7 @@ use lib.ListN.{length, getD}
 use Rattle.base.specs.Runs as every
 use Rattle.fragment_laws.specs.Calls.{Store, Asked, taking, releasing, Of64Bits}
 use Rattle.fragment_laws.specs.Trains.{All, Covers, byteFor}
-use Rattle.fragments.specs.Promises.{storedPayload}
+use Rattle.fragments.specs.Handing.{storedPayload}
 use Rattle.packets.specs.declared.packet.Datagram.{Datagram}
 use Rattle.fragments.specs.declared.answer.State.the-variants.{Complete}
 use Rattle.host.specs.Reassembly.{Took, Freed}

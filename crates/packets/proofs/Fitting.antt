@@ -1,8 +1,8 @@
 -- What a frame that is not unfit has: a payload that lies in it, and as a fragment some bytes that end at 65,515 at most. The tests that it
 -- passed say so.
 use Prim.Native.Nat.{ℕ, _+_, _%_, _≤_}
-use mathlib.Core.Path.{_≡_, refl, sym, subst}
-use mathlib.Core.Bool.{Bool, true, false, _&&_, _||_, not, and-eq-true-iff, cond}
+use mathlib.Core.Path.{_≡_, sym, subst}
+use mathlib.Core.Bool.{Bool, true, false, _&&_, _||_, not, and-eq-true-iff}
 use mathlib.Core.List.{List}
 use native.Mathlib.Omega.{arith}
 use borrow.Author.Tests.{leb-true, not-true, not-false, eqb-true, eqb-false}
@@ -13,7 +13,6 @@ use Rattle.wire.specs.Rfc791.{version, headerLength, totalLength, moreFragments
 use Rattle.wire.specs.Rfc894.{body, typeOf}
 use Rattle.packets.specs.Packets.{soundHeader, sound, isWhole, payloadLength, goodLength, fragmentOf, endOf, packetOf}
 use Rattle.packets.specs.declared.packet.Fragment.{Fragment}
-use Rattle.packets.specs.declared.packet.Packet.{Packet}
 use Rattle.packets.specs.declared.packet.Packet.the-variants.{Unfit, Whole, Part}
 
 -- a packet of one kind is of no other

@@ -1,11 +1,10 @@
 -- Where a call says the payload stands, it stands: nothing but a whole datagram passes, and its payload is behind its header; a complete one's is in front in the store.
 use Prim.Native.Nat.{ℕ, _+_}
 use mathlib.Core.Bool.{Bool, true, false, true≢false, not, cond}
-use mathlib.Core.List.{List, []}
+use mathlib.Core.List.{List}
 use mathlib.Core.Path.{_≡_, refl, ap, ap₂, sym, _∙_}
 use native.Mathlib.Omega.{arith}
-use lib.Dec.{leb}
-use lib.ListN.{length, take, getD}
+use lib.ListN.{length, getD}
 use Rattle.base.specs.Bytes.{part}
 use Rattle.bitmap.specs.Bitmap.{bit}
 use Rattle.wire.specs.Rfc791.{headerLength}
@@ -17,17 +16,19 @@ use Rattle.packets.specs.declared.packet.Fragment.{Fragment}
 use Rattle.packets.specs.declared.packet.Packet.{Packet}
 use Rattle.packets.specs.declared.packet.Packet.the-variants.{Unfit, Whole, Part}
 use Rattle.fragments.specs.Answer.{passed, saidFor}
-use Rattle.fragments.specs.Promises.{Takes, payloadOf, wholePayload, storedPayload}
+use Rattle.fragments.specs.Handing.{siteOf, wholePayload, storedPayload, payloadAt, payloadOf}
+use Rattle.fragments.specs.Promises.{Takes}
 use Rattle.fragments.specs.Rules.{ofSize, isHeld, overlaps, wrongEnd, knownEnd, endWith, ruling, packetRuling, partRuling, outcomeOf, settled}
 use Rattle.fragments.specs.declared.answer.Answer.{Answer}
 use Rattle.fragments.specs.declared.answer.Answer.the-variants as Answer
 use Rattle.fragments.specs.declared.answer.End.{End}
+use Rattle.fragments.specs.declared.answer.Site.{Site}
+use Rattle.fragments.specs.declared.answer.Site.the-variants as Site
 use Rattle.fragments.specs.declared.answer.State.{State}
-use Rattle.fragments.specs.declared.answer.State.the-variants.{Empty, Filling, Complete}
 use Rattle.fragments.specs.declared.answer.Taken.{Taken}
 use Rattle.fragments.specs.declared.ruling.Ruling.the-variants.{Refuse, Write}
 use Rattle.store_words.proofs.Changing.{settled-changes}
-use Rattle.store_words.specs.Reports.{changes, placeOf, storedPlace, placedIn}
+use Rattle.store_words.specs.Reports.{changes, placeAt, placeOf, countedIn, placedIn}
 
 -- a fragment never passes: refused or written
 written-no-pass : (d : Datagram) (end : End) (there : ℕ → ℕ) → settled d end there .said ≡ passed → ⊥
@@ -46,6 +47,18 @@ part-no-pass state there f = tests (isHeld state (f .datagram)) (overlaps f ther
     tests false false true e = let z : _≡_ {A = ℕ} 0 1 = cc in omega arith
     tests false false false e = written-no-pass (f .datagram) (endWith f (knownEnd state)) _ e
 
+-- and no other answer than passed hands out a part of the frame
+only-passed : (a : Answer) → siteOf a ≡ Site.Frame → saidFor a ≡ passed
+unfolding siteOf saidFor
+only-passed Answer.Passed e = refl
+only-passed Answer.Complete e = let z : _≡_ {A = ℕ} 0 1 = cc in absurd (omega arith)
+only-passed Answer.Stored e = let z : _≡_ {A = ℕ} 0 1 = cc in absurd (omega arith)
+only-passed Answer.Released e = let z : _≡_ {A = ℕ} 0 1 = cc in absurd (omega arith)
+only-passed Answer.Unfit e = let z : _≡_ {A = ℕ} 0 1 = cc in absurd (omega arith)
+only-passed Answer.Held e = let z : _≡_ {A = ℕ} 0 1 = cc in absurd (omega arith)
+only-passed Answer.Overlap e = let z : _≡_ {A = ℕ} 0 1 = cc in absurd (omega arith)
+only-passed Answer.WrongEnd e = let z : _≡_ {A = ℕ} 0 1 = cc in absurd (omega arith)
+
 -- so what passes is whole, with its payload behind its header
 passed-whole : (state : State) (frame : List ℕ) (n : ℕ) (bits : List ℕ) → outcomeOf state (bit bits) (ruling state frame n bits) .said ≡ passed
     → packetOf frame ≡ Whole (14 + headerLength (body frame)) (payloadLength (body frame))
@@ -60,35 +73,16 @@ passed-whole state frame n bits = kinds (not (ofSize n (length bits))) (packetOf
     kinds false (Whole start m) is e = let whole = whole-is frame start m is in is ∙ sym (ap₂ Whole (whole .starts) (whole .long))
     kinds false (Part f) is e = absurd (part-no-pass state (bit bits) f e)
 
--- a complete one's is the first bytes of the store
-stored-stands : (bytes : List ℕ) (state : State)
-    → part bytes (getD (storedPlace (length bytes) state) 0 0) (getD (storedPlace (length bytes) state) 1 0) ≡ storedPayload bytes state
-unfolding storedPlace storedPayload
-stored-stands bytes Empty = refl
-stored-stands bytes (Filling d end) = refl
-stored-stands bytes (Complete d n) = within (leb n (length bytes))
-  where
-    within : (b : Bool) → take (cond b n 0) bytes ≡ cond b (take n bytes) []
-    within true = refl
-    within false = refl
-
 -- so what stands at the place is the payload that the core hands out
 pub payload-stands : (state : State) (frame bytes bits bytes′ bits′ : List ℕ) (taken : Taken) → Takes state frame bytes bits bytes′ bits′ taken
     → part (placedIn (taken .answer) frame bytes′) (getD (placeOf (taken .answer) (taken .state) frame (length bytes′)) 0 0) (getD (placeOf (taken .answer) (taken .state) frame (length bytes′)) 1 0)
     ≡ payloadOf (taken .answer) (taken .state) frame bytes′
-unfolding placedIn placeOf payloadOf wholePayload saidFor
-payload-stands state frame bytes bits bytes′ bits′ taken d = by-answer (taken .answer) (taken .state) (d .answers)
+unfolding countedIn placeAt payloadAt wholePayload storedPayload
+payload-stands state frame bytes bits bytes′ bits′ taken d = at-site (siteOf (taken .answer)) refl
   where
-    place : Answer → State → List ℕ
-    place a s = placeOf a s frame (length bytes′)
-
-    by-answer : (a : Answer) (s : State) → saidFor a ≡ outcomeOf state (bit bits) (ruling state frame (length bytes) bits) .said
-        → part (placedIn a frame bytes′) (getD (place a s) 0 0) (getD (place a s) 1 0) ≡ payloadOf a s frame bytes′
-    by-answer Answer.Passed s e = ap (wholePayload frame) (sym (passed-whole state frame (length bytes) bits (sym e)))
-    by-answer Answer.Complete s e = stored-stands bytes′ s
-    by-answer Answer.Stored s e = refl
-    by-answer Answer.Released s e = refl
-    by-answer Answer.Unfit s e = refl
-    by-answer Answer.Held s e = refl
-    by-answer Answer.Overlap s e = refl
-    by-answer Answer.WrongEnd s e = refl
+    at-site : (site : Site) → siteOf (taken .answer) ≡ site
+        → part (countedIn site frame bytes′) (getD (placeAt site (taken .state) frame (length bytes′)) 0 0) (getD (placeAt site (taken .state) frame (length bytes′)) 1 0)
+        ≡ payloadAt site (taken .state) frame bytes′
+    at-site Site.Frame e = ap (wholePayload frame) (sym (passed-whole state frame (length bytes) bits (sym (d .answers) ∙ only-passed (taken .answer) e)))
+    at-site Site.Store e = refl
+    at-site Site.Nowhere e = refl

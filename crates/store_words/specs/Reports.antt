@@ -3,15 +3,15 @@ use Prim.Native.Nat.{ℕ, _+_}
 use mathlib.Core.Bool.{Bool, true, false, cond}
 use mathlib.Core.List.{List, [], _∷_}
 use mathlib.Core.Path.{_≡_}
-use lib.Dec.{leb}
 use Rattle.wire.specs.Rfc791.{headerLength}
 use Rattle.wire.specs.Rfc894.{body}
+use Rattle.fragments.specs.Handing.{siteOf, storedLength}
 use Rattle.fragments.specs.Answer.{Said, passed, stored, complete, released, refused, saidFor}
 use Rattle.packets.specs.Packets.{payloadLength}
 use Rattle.fragments.specs.declared.answer.Answer.{Answer}
-use Rattle.fragments.specs.declared.answer.Answer.the-variants as Answer
+use Rattle.fragments.specs.declared.answer.Site.{Site}
+use Rattle.fragments.specs.declared.answer.Site.the-variants as Site
 use Rattle.fragments.specs.declared.answer.State.{State}
-use Rattle.fragments.specs.declared.answer.State.the-variants.{Empty, Filling, Complete}
 use Rattle.fragments.specs.declared.answer.Taken.{Taken}
 use Rattle.store_words.specs.Words.{stateOf, wordsOf}
 
@@ -37,30 +37,20 @@ pub record Reports (words words′ : List ℕ) (taken : Taken) (number : ℕ) : 
   pub written : words′ ≡ cond (changes (saidFor (taken .answer))) (wordsOf (taken .state)) words
   pub read : stateOf words′ ≡ cond (changes (saidFor (taken .answer))) (taken .state) (stateOf words)
 
--- in a complete store the payload is the first bytes; a state that tells more than are lent hands out none
-unfoldable pub storedPlace : (lent : ℕ) → State → List ℕ
-storedPlace lent (Complete d length) = 0 ∷ cond (leb length lent) length 0 ∷ []
-storedPlace lent Empty = 0 ∷ 0 ∷ []
-storedPlace lent (Filling d end) = 0 ∷ 0 ∷ []
-
 -- Where the payload starts and its length: in the frame on passed, in the store's bytes on complete; 0 and 0 on every other answer.
-unfoldable pub placeOf : Answer → State → (frame : List ℕ) (lent : ℕ) → List ℕ
-placeOf Answer.Passed state frame lent = (14 + headerLength (body frame)) ∷ payloadLength (body frame) ∷ []
-placeOf Answer.Complete state frame lent = storedPlace lent state
-placeOf Answer.Stored state frame lent = 0 ∷ 0 ∷ []
-placeOf Answer.Released state frame lent = 0 ∷ 0 ∷ []
-placeOf Answer.Unfit state frame lent = 0 ∷ 0 ∷ []
-placeOf Answer.Held state frame lent = 0 ∷ 0 ∷ []
-placeOf Answer.Overlap state frame lent = 0 ∷ 0 ∷ []
-placeOf Answer.WrongEnd state frame lent = 0 ∷ 0 ∷ []
+unfoldable pub placeAt : Site → State → (frame : List ℕ) (lent : ℕ) → List ℕ
+placeAt Site.Frame state frame lent = (14 + headerLength (body frame)) ∷ payloadLength (body frame) ∷ []
+placeAt Site.Store state frame lent = 0 ∷ storedLength state lent ∷ []
+placeAt Site.Nowhere state frame lent = 0 ∷ 0 ∷ []
+
+abbrev pub placeOf : Answer → State → (frame : List ℕ) (lent : ℕ) → List ℕ
+placeOf answer state frame lent = placeAt (siteOf answer) state frame lent
 
 -- what the place is counted in
-unfoldable pub placedIn : Answer → (frame bytes : List ℕ) → List ℕ
-placedIn Answer.Passed frame bytes = frame
-placedIn Answer.Complete frame bytes = bytes
-placedIn Answer.Stored frame bytes = bytes
-placedIn Answer.Released frame bytes = bytes
-placedIn Answer.Unfit frame bytes = bytes
-placedIn Answer.Held frame bytes = bytes
-placedIn Answer.Overlap frame bytes = bytes
-placedIn Answer.WrongEnd frame bytes = bytes
+unfoldable pub countedIn : Site → (frame bytes : List ℕ) → List ℕ
+countedIn Site.Frame frame bytes = frame
+countedIn Site.Store frame bytes = bytes
+countedIn Site.Nowhere frame bytes = bytes
+
+abbrev pub placedIn : Answer → (frame bytes : List ℕ) → List ℕ
+placedIn answer frame bytes = countedIn (siteOf answer) frame bytes

@@ -1,24 +1,46 @@
 -- `is_same` meets its contract, field by field.
+use mathlib.Core.Bool.{false}
+use mathlib.Core.Path.{_≡_}
 use borrow.Author.Tests.{eq-eqb, ne-eqb}
+use lib.Dec.{eqb}
+use Rattle.packets.specs.declared.packet.Datagram.{Datagram}
 use Rattle.fragments.specs.Rules.{sameDatagram}
 use Rattle.fragments.proofs.ruling.is_same.Statement.{statement}
 use Rattle.fragments.proofs.ruling.is_same.Tie as tie
 
+module _ (d e : Datagram) where
+  other-source : (d .source ≡ e .source → ⊥) → false ≡ sameDatagram d e
+  unfolding sameDatagram
+  other-source s = simp (ne-eqb (d .source) (e .source) s)
+
+  other-target : d .source ≡ e .source → (d .target ≡ e .target → ⊥) → false ≡ sameDatagram d e
+  unfolding sameDatagram
+  other-target s t = simp (eq-eqb (d .source) (e .source) s, ne-eqb (d .target) (e .target) t)
+
+  other-protocol : d .source ≡ e .source → d .target ≡ e .target → (d .protocol ≡ e .protocol → ⊥) → false ≡ sameDatagram d e
+  unfolding sameDatagram
+  other-protocol s t p = simp (eq-eqb (d .source) (e .source) s, eq-eqb (d .target) (e .target) t, ne-eqb (d .protocol) (e .protocol) p)
+
+  by-id : d .source ≡ e .source → d .target ≡ e .target → d .protocol ≡ e .protocol → eqb (d .id) (e .id) ≡ sameDatagram d e
+  unfolding sameDatagram
+  by-id s t p = simp (eq-eqb (d .source) (e .source) s, eq-eqb (d .target) (e .target) t, eq-eqb (d .protocol) (e .protocol) p)
+
 returns : tie.Need-returns
-unfolding sameDatagram
-returns c = simp (ne-eqb (c .before .before .before .args .one .source) (c .before .before .before .args .other .source) (c .if1 .taken))
+returns c = other-source _ _ (c .if1 .taken)
 
 returns-2 : tie.Need-returns-2
-unfolding sameDatagram
-returns-2 c = simp (eq-eqb (c .before .before .before .before .before .before .args .one .source) (c .before .before .before .before .before .before .args .other .source) (c .before .before .before .if1 .left), ne-eqb (c .before .before .before .before .before .before .args .one .target) (c .before .before .before .before .before .before .args .other .target) (c .if2 .taken))
+returns-2 c = other-target _ _ (c .before .before .before .if1 .left) (c .if2 .taken)
 
 returns-3 : tie.Need-returns-3
-unfolding sameDatagram
-returns-3 c = simp (eq-eqb (c .before .before .before .before .before .before .before .before .before .args .one .source) (c .before .before .before .before .before .before .before .before .before .args .other .source) (c .before .before .before .before .before .before .if1 .left), eq-eqb (c .before .before .before .before .before .before .before .before .before .args .one .target) (c .before .before .before .before .before .before .before .before .before .args .other .target) (c .before .before .before .if2 .left), ne-eqb (c .before .before .before .before .before .before .before .before .before .args .one .protocol) (c .before .before .before .before .before .before .before .before .before .args .other .protocol) (c .if3 .taken))
+returns-3 c =
+    let target = c .before .before .before in
+    other-protocol _ _ (target .before .before .before .if1 .left) (target .if2 .left) (c .if3 .taken)
 
 returns-4 : tie.Need-returns-4
-unfolding sameDatagram
-returns-4 c = simp (eq-eqb (c .before .before .before .before .before .before .before .before .before .before .before .args .one .source) (c .before .before .before .before .before .before .before .before .before .before .before .args .other .source) (c .before .before .before .before .before .before .before .before .if1 .left), eq-eqb (c .before .before .before .before .before .before .before .before .before .before .before .args .one .target) (c .before .before .before .before .before .before .before .before .before .before .before .args .other .target) (c .before .before .before .before .before .if2 .left), eq-eqb (c .before .before .before .before .before .before .before .before .before .before .before .args .one .protocol) (c .before .before .before .before .before .before .before .before .before .before .before .args .other .protocol) (c .before .before .if3 .left))
+returns-4 c =
+    let protocol = c .before .before in
+    let target = protocol .before .before .before in
+    by-id _ _ (target .before .before .before .if1 .left) (target .if2 .left) (protocol .if3 .left)
 
 pub is-same-spec : {M : Type 1} → statement M
 is-same-spec = tie.close (tie.spec returns returns-2 returns-3 returns-4)

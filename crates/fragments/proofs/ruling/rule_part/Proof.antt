@@ -6,7 +6,6 @@ use Rattle.fragments.specs.Rules.{partRuling, isHeld, overlaps, wrongEnd
 use Rattle.fragments.specs.declared.answer.Answer.the-variants as Answer
 use Rattle.fragments.specs.declared.answer.End.{End}
 use Rattle.fragments.specs.declared.answer.State.{State}
-use Rattle.fragments.specs.declared.ruling.Ruling.{Ruling}
 use Rattle.fragments.specs.declared.ruling.Ruling.the-variants.{Refuse, Write}
 use Rattle.packets.specs.declared.packet.Fragment.{Fragment}
 use borrow.Author.Needs.{needs}

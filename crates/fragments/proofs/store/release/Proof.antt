@@ -1,32 +1,37 @@
--- `release` meets its contract.
-use mathlib.Core.Bool.{true, false, cond}
+-- `release` meets its contract, by the size.
 use Prim.Native.Nat.{ℕ}
-use mathlib.Core.Path.{_≡_, sym, ap, _∙_}
+use mathlib.Core.Bool.{true, false}
+use mathlib.Core.List.{List}
+use mathlib.Core.Path.{_≡_, ap, sym, _∙_}
 use borrow.Author.Tests.{not-true, not-false}
 use lib.ListN.{length, replicate}
-use Rattle.fragments.specs.Rules.{ofSize}
 use Rattle.fragments.specs.Answer.{saidFor}
+use Rattle.fragments.specs.Promises.{Releases}
+use Rattle.fragments.specs.Rules.{ofSize}
+use Rattle.fragments.specs.declared.answer.Answer.the-variants as Answer
+use Rattle.fragments.specs.declared.answer.State.{State}
+use Rattle.fragments.specs.declared.answer.State.the-variants.{Empty}
 use borrow.Author.Needs.{needs}
 use Rattle.fragments.proofs.Storing.{of-size}
 use Rattle.fragments.proofs.store.release.Statement.{statement}
 use Rattle.fragments.proofs.store.release.Tie as tie
 
-returns : tie.Need-returns
+other-size : (state : State) (bytes bits : List ℕ) → ofSize (length bytes) (length bits) ≡ false → Releases state bytes bits bits (record { answer = Answer.Unfit; state = state })
 unfolding saidFor
-returns c =
-    let a = c .before .before .before .before .args in
-    let e : ofSize (length (a .bytes .now)) (length (a .bits .now)) ≡ false =
-    sym (c .before .is-of-size .ensures) ∙ not-true (c .before .is-of-size .result) (c .if1 .taken) in
-    record { answers = simp e; next = simp e; cleared = simp e }
+other-size state bytes bits e = record { answers = simp e; next = simp e; cleared = simp e }
+
+emptied : (state : State) (bytes bits bits′ : List ℕ) → ofSize (length bytes) (length bits) ≡ true → bits′ ≡ replicate (length bits) 0
+    → Releases state bytes bits bits′ (record { answer = Answer.Released; state = Empty })
+unfolding saidFor
+emptied state bytes bits bits′ e cleared = record { answers = simp e; next = simp e; cleared = rw e (cleared ∙ ap (λ (n : ℕ). replicate n 0) (of-size _ _ e .1)) }
+
+returns : tie.Need-returns
+returns c = other-size _ _ _ (sym (c .before .is-of-size .ensures) ∙ not-true _ (c .if1 .taken))
 
 returns-2 : tie.Need-returns-2
-unfolding saidFor
 returns-2 c =
-    let a = c .before .before .before .before .before .before .before .before .args in
-    let e : ofSize (length (a .bytes .now)) (length (a .bits .now)) ≡ true =
-    sym (c .before .before .before .before .before .is-of-size .ensures) ∙ not-false (c .before .before .before .before .before .is-of-size .result) (c .before .before .before .before .if1 .left) in
-    let cleared : cond (ofSize (length (a .bytes .now)) (length (a .bits .now))) (replicate 128 0) (a .bits .now) ≡ replicate 128 0 = simp e in
-    record { answers = simp e; next = simp e; cleared = c .before .before .clear .ensures ∙ ap (λ (n : ℕ). replicate n 0) (of-size _ _ e .1) ∙ sym cleared }
+    let sized = c .before .before .before .before in
+    emptied _ _ _ _ (sym (sized .before .is-of-size .ensures) ∙ not-false _ (sized .if1 .left)) (c .before .before .clear .ensures)
 
 pub release-spec : {M : Type 1} → statement M
 release-spec =

@@ -13,22 +13,25 @@ use Rattle.fragments.proofs.store.settle.Tie as tie
 returns : tie.Need-returns
 unfolding saidFor settled
 returns c =
-    let a = c .before .before .before .before .before .before .before .args in
-    let there = bit (a .bits .now) in
-    let n = blocksOf (c .before .before .before .before .end .given .0 .0) in
-    let k : count there 0 n ≡ c .before .count .result = ap (count there 0) {x = n} {y = c .before .before .blocks-of .result - 0} (omega (arith, c .before .before .blocks-of .ensures)) ∙ sym (c .before .count .ensures) in
-    let e = eq-eqb (count there 0 n) n (k ∙ c .if1 .taken ∙ c .before .before .blocks-of .ensures) in
-    rw (c .before .before .before .before .end .given .1) (record { answers = simp e; next = simp e })
+    let blocks = c .before .before in
+    let end = blocks .before .before in
+    let there = bit (end .before .before .before .args .bits .now) in
+    let n = blocksOf (end .end .given .0 .0) in
+    let k : count there 0 n ≡ c .before .count .result = ap (count there 0) {x = n} {y = blocks .blocks-of .result - 0} (omega (arith, blocks .blocks-of .ensures)) ∙ sym (c .before .count .ensures) in
+    let e = eq-eqb (count there 0 n) n (k ∙ c .if1 .taken ∙ blocks .blocks-of .ensures) in
+    rw (end .end .given .1) (record { answers = simp e; next = simp e })
 
 returns-2 : tie.Need-returns-2
 unfolding saidFor settled
 returns-2 c =
-    let a = c .before .before .before .before .before .before .before .before .args in
-    let there = bit (a .bits .now) in
-    let n = blocksOf (c .before .before .before .before .before .end .given .0 .0) in
-    let k : count there 0 n ≡ c .before .before .count .result = ap (count there 0) {x = n} {y = c .before .before .before .blocks-of .result - 0} (omega (arith, c .before .before .before .blocks-of .ensures)) ∙ sym (c .before .before .count .ensures) in
-    let e = ne-eqb (count there 0 n) n (λ q. c .before .if1 .left (sym k ∙ q ∙ sym (c .before .before .before .blocks-of .ensures))) in
-    rw (c .filling .ensures, c .before .before .before .before .before .end .given .1) (record { answers = simp e; next = simp e })
+    let blocks = c .before .before .before in
+    let end = blocks .before .before in
+    let there = bit (end .before .before .before .args .bits .now) in
+    let n = blocksOf (end .end .given .0 .0) in
+    let counted = c .before .before .count in
+    let k : count there 0 n ≡ counted .result = ap (count there 0) {x = n} {y = blocks .blocks-of .result - 0} (omega (arith, blocks .blocks-of .ensures)) ∙ sym (counted .ensures) in
+    let e = ne-eqb (count there 0 n) n (λ q. c .before .if1 .left (sym k ∙ q ∙ sym (blocks .blocks-of .ensures))) in
+    rw (c .filling .ensures, end .end .given .1) (record { answers = simp e; next = simp e })
 
 returns-3 : tie.Need-returns-3
 unfolding saidFor settled

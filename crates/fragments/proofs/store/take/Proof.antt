@@ -12,22 +12,32 @@ use Rattle.fragments.proofs.store.take.Tie as tie
 
 write-requires : tie.Need-write-requires
 write-requires c κs =
-    let a = c .before .before .before .before .before .before .before .before .before .before .args in
-    let to-store = stored (a .state) (a .frame .now) (length (a .bytes .now)) (a .bits .now) (c .before .before .before .ruling2 .given .0 .0) (c .before .before .before .ruling2 .given .0 .1 .0) (sym (c .before .before .before .before .before .rule .ensures) ∙ c .before .before .before .ruling2 .given .1) in
-    let fits = part-fits (a .frame .now) (c .before .before .before .ruling2 .given .0 .0) (to-store .1 .is-part) in
-    (fits .in-frame, (fits .short, of-size _ _ (to-store .0)))
+    let write = c .before .before .before in
+    let ruled = write .before .before in
+    let a = ruled .before .before .before .before .before .args in
+    let to-write = stored (a .state) (a .frame .now) (length (a .bytes .now)) (a .bits .now) _ _ (sym (ruled .rule .ensures) ∙ write .ruling2 .given .1) in
+    let fits = part-fits (a .frame .now) _ (to-write .1 .is-part) in
+    (fits .in-frame, (fits .short, of-size _ _ (to-write .0)))
 
 returns : tie.Need-returns
 unfolding saidFor outcomeOf
-returns c = rw (sym (c .before .before .before .rule .ensures) ∙ c .before .ruling .given .1) (record { answers = refl; next = refl; store = record { kept-bytes = refl; kept-bits = refl } })
+returns c =
+    rw (sym (c .before .before .before .rule .ensures) ∙ c .before .ruling .given .1)
+    (record { answers = refl; next = refl; store = record { kept-bytes = refl; kept-bits = refl } })
 
 returns-2 : tie.Need-returns-2
 unfolding saidFor outcomeOf
-returns-2 c = rw (sym (c .before .before .rule .ensures) ∙ c .enum-told .given .1) (record { answers = refl; next = refl; store = record { kept-bytes = refl; kept-bits = refl } })
+returns-2 c =
+    rw (sym (c .before .before .rule .ensures) ∙ c .enum-told .given .1)
+    (record { answers = refl; next = refl; store = record { kept-bytes = refl; kept-bits = refl } })
 
 returns-3 : tie.Need-returns-3
 unfolding outcomeOf
-returns-3 c = rw (sym (c .before .before .before .before .before .before .before .before .before .before .rule .ensures) ∙ c .before .before .before .before .before .before .before .before .ruling2 .given .1) (record { answers = c .before .before .before .before .write .ensures .0 .answers; next = c .before .before .before .before .write .ensures .0 .next; store = c .before .before .before .before .write .ensures .1 })
+returns-3 c =
+    let written = c .before .before .before .before in
+    let write = written .before .before .before .before in
+    rw (sym (write .before .before .rule .ensures) ∙ write .ruling2 .given .1)
+    (record { answers = written .write .ensures .0 .answers; next = written .write .ensures .0 .next; store = written .write .ensures .1 })
 
 pub take-spec : {M : Type 1} → statement M
 take-spec =

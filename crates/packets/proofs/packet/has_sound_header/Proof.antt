@@ -1,5 +1,7 @@
--- `has_sound_header` meets its contract, test by test.
-use Prim.Native.Nat.{ℕ, _+_}
+-- `has_sound_header` meets its contract: each answer by the test that gave it and those before it.
+use Prim.Native.Nat.{ℕ, _+_, _≤_, _<_}
+use mathlib.Core.Bool.{false}
+use mathlib.Core.List.{List}
 use mathlib.Core.Path.{_≡_, sym, ap, _∙_}
 use native.Mathlib.Nat.{zero-add}
 use native.Mathlib.Omega.{arith}
@@ -13,43 +15,51 @@ use borrow.Author.Needs.{needs}
 use Rattle.packets.proofs.packet.has_sound_header.Statement.{statement}
 use Rattle.packets.proofs.packet.has_sound_header.Tie as tie
 
-returns : tie.Need-returns
+other-version : (p : List ℕ) → (version p ≡ 4 → ⊥) → false ≡ soundHeader p
 unfolding soundHeader
-returns c = let p = c .before .before .before .args .packet .now in simp (ne-eqb (version p) 4 (λ e. c .if1 .taken (c .before .version .ensures ∙ e)))
+other-version p v = simp (ne-eqb (version p) 4 v)
+
+module _ (p : List ℕ) (v : version p ≡ 4) where
+  short-header : headerLength p < 20 → false ≡ soundHeader p
+  unfolding soundHeader
+  short-header h = simp (eq-eqb (version p) 4 v, lt-leb 20 (headerLength p) h)
+
+  short-total : 20 ≤ headerLength p → totalLength p < headerLength p → false ≡ soundHeader p
+  unfolding soundHeader
+  short-total h t = simp (eq-eqb (version p) 4 v, le-leb 20 (headerLength p) h, lt-leb (headerLength p) (totalLength p) t)
+
+  cut-off : 20 ≤ headerLength p → headerLength p ≤ totalLength p → length p < totalLength p → false ≡ soundHeader p
+  unfolding soundHeader
+  cut-off h t l = simp (eq-eqb (version p) 4 v, le-leb 20 (headerLength p) h, le-leb (headerLength p) (totalLength p) t, lt-leb (totalLength p) (length p) l)
+
+  by-sum : 20 ≤ headerLength p → headerLength p ≤ totalLength p → totalLength p ≤ length p → soundHeader p ≡ eqb (fold (total (take (headerLength p) p))) 65535
+  unfolding soundHeader
+  by-sum h t l = simp (eq-eqb (version p) 4 v, le-leb 20 (headerLength p) h, le-leb (headerLength p) (totalLength p) t, le-leb (totalLength p) (length p) l)
+
+returns : tie.Need-returns
+returns c = other-version _ (λ e. c .if1 .taken (c .before .version .ensures ∙ e))
 
 returns-2 : tie.Need-returns-2
-unfolding soundHeader
-returns-2 c = let p = c .before .before .before .before .before .args .packet .now in simp (eq-eqb (version p) 4 (sym (c .before .before .before .version .ensures) ∙ c .before .before .if1 .left), lt-leb 20 (headerLength p) (omega arith))
+returns-2 c = short-header _ (cc) (omega arith)
 
 returns-3 : tie.Need-returns-3
-unfolding soundHeader
-returns-3 c = let p = c .before .before .before .before .before .before .before .args .packet .now in simp (eq-eqb (version p) 4 (sym (c .before .before .before .before .before .version .ensures) ∙ c .before .before .before .before .if1 .left), le-leb 20 (headerLength p) (omega arith), lt-leb (headerLength p) (totalLength p) (omega arith))
+returns-3 c = short-total _ (cc) (omega arith) (omega arith)
 
 returns-4 : tie.Need-returns-4
-unfolding soundHeader
-returns-4 c = let p = c .before .before .before .before .before .before .before .before .args .packet .now in simp (eq-eqb (version p) 4 (sym (c .before .before .before .before .before .before .version .ensures) ∙ c .before .before .before .before .before .if1 .left), le-leb 20 (headerLength p) (omega arith), le-leb (headerLength p) (totalLength p) (omega arith), lt-leb (totalLength p) (length p) (omega arith))
+returns-4 c = cut-off _ (cc) (omega arith) (omega arith) (omega arith)
 
 slice-aggregate-sum : tie.Need-slice-aggregate-sum
 slice-aggregate-sum c = simp length-take (omega arith)
 
 returns-5 : tie.Need-returns-5
-unfolding soundHeader
 returns-5 c =
-    let p = c .before .before .before .before .before .before .before .before .before .before .args .packet .now in
-    let tested : soundHeader p ≡ eqb (fold (total (take (headerLength p) p))) 65535 =
-    simp (
-      eq-eqb (version p) 4
-          (sym (c .before .before .before .before .before .before .before .before .version .ensures)
-          ∙ c .before .before .before .before .before .before .before .if1 .left),
-      le-leb 20 (headerLength p) (omega arith),
-      le-leb (headerLength p) (totalLength p) (omega arith),
-      le-leb (totalLength p) (length p) (omega arith),
-    ) in
+    let header = c .before .before .before .before .before .before in
+    let p = header .before .before .before .before .args .packet .now in
     ap (λ (n : ℕ). eqb n 65535)
     (c .sum .ensures
-    ∙ ap (λ (n : ℕ). fold (0 + total (take n p))) (c .before .before .before .before .before .before .header-length .ensures .0)
+    ∙ ap (λ (n : ℕ). fold (0 + total (take n p))) (header .header-length .ensures .0)
     ∙ ap fold (zero-add (total (take (headerLength p) p))))
-    ∙ sym tested
+    ∙ sym (by-sum p (cc) (omega arith) (omega arith) (omega arith))
 
 pub has-sound-header-spec : {M : Type 1} → statement M
 has-sound-header-spec =
