@@ -6,7 +6,7 @@ ghost use lib.ListN.{length};
 ghost use lib.Dec.{eqb, ltb};
 ghost use Rattle.rules.specs.Rules.{decision, arpDecision, ipDecision, icmpDecision, udpDecision, dhcpDecision, typeDecision};
 ghost use Rattle.rules.specs.Same.{same as Same·same};
-ghost use Rattle.options.specs.Found.{told};
+ghost use Rattle.options.specs.Found.{walkedAs};
 use dhcp_reply::reply_type;
 use options::Found;
 use options::message_type;
@@ -185,7 +185,7 @@ fn decide_dhcp(message: &[u8]) -> Decision
 }
 
 fn decide_type(xid: u32, found: Found) -> Decision
-    ensures { λ r. ⌜ r ≡ typeDecision xid (told found) ⌝ }
+    ensures { λ r. ⌜ r ≡ typeDecision xid (walkedAs found) ⌝ }
 {
     match found {
         Found::MessageType(received) => {

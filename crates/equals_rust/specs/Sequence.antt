@@ -12,8 +12,8 @@ use Rattle.published.specs.Rust.{gives, whole}
 use Rattle.published.specs.Backend.{SlirpBackend}
 use Rattle.published.specs.Slirp.{send}
 use Rattle.rules.specs.Rules.{outcome}
-use Rattle.equal.specs.Alike.{cameOf}
-use Rattle.equal.specs.Types.{Bytes}
+use Rattle.equals_rust.specs.Alike.{cameOf}
+use Rattle.equals_rust.specs.Types.{Bytes}
 
 -- one call: the frame, the buffer before and after, the answer
 pub record Exchange : Type 0 where

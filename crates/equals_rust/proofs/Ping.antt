@@ -16,11 +16,11 @@ use Rattle.published.specs.Frames.{«GW_IP», «IP_PROTO_ICMP», «eth_src», �
 use Rattle.published.specs.Backend.{SlirpBackend, pushed}
 use Rattle.wire.specs.Rfc792.{echoWith, echo}
 use Rattle.sums.specs.Rfc1071.{total, fold, checksum}
-use Rattle.equal.specs.Types.{Bytes}
-use Rattle.equal.proofs.Operations.{same-next, range-in, array-of, copy-over, copy-zeros, copy-rest, bytes-drop, bytes-at}
-use Rattle.equal.proofs.Sum.{rust-checksum, rust-sum}
-use Rattle.equal.proofs.Builders.{ip-frame-cut, ip-frame-given}
-use Rattle.equal.proofs.Fields.{range-at, eth-src, ip-src}
+use Rattle.equals_rust.specs.Types.{Bytes}
+use Rattle.equals_rust.proofs.Operations.{same-next, range-in, array-of, copy-over, copy-zeros, copy-rest, bytes-drop, bytes-at}
+use Rattle.equals_rust.proofs.Sum.{rust-checksum, rust-sum}
+use Rattle.equals_rust.proofs.Builders.{ip-frame-cut, ip-frame-given}
+use Rattle.equals_rust.proofs.Fields.{range-at, eth-src, ip-src}
 
 -- the end of `handle_icmp`, once the message is an echo request
 abbrev pub answered : SlirpBackend → (frame : List ℕ) (payload : Slice) → Run SlirpBackend

@@ -26,11 +26,11 @@ use Rattle.published.specs.Rust.{Run, gives, panics, Slice, whole, lenOf, zeros
 use Rattle.published.specs.Frames.{«BCAST_MAC», «BCAST_IP», «GW_IP»}
 use Rattle.published.specs.Backend.{SlirpBackend, withXid, pushed}
 use Rattle.published.specs.Dhcp.{scan, «message_type», «build_reply», «send_dhcp_reply»}
-use Rattle.equal.proofs.Operations.{index-in, index-past, array-of, copy-over, be32-same}
-use Rattle.equal.proofs.Builders.{ip-frame-given, udp-payload-given}
-use Rattle.equal.proofs.Fields.{eth-src}
-use Rattle.equal.specs.Alike.{recordOf}
-use Rattle.equal.specs.Types.{GuestTyped}
+use Rattle.equals_rust.proofs.Operations.{index-in, index-past, array-of, copy-over, be32-same}
+use Rattle.equals_rust.proofs.Builders.{ip-frame-given, udp-payload-given}
+use Rattle.equals_rust.proofs.Fields.{eth-src}
+use Rattle.equals_rust.specs.Alike.{recordOf}
+use Rattle.equals_rust.specs.Types.{GuestTyped}
 
 -- the walk, as the Rust comes to it
 abbrev pub ran : Walked → Run ℕ

@@ -24,13 +24,13 @@ use Rattle.tcp.specs.Builders.{dataLimit, makeTcpFrame}
 use Rattle.tcp.specs.Rfc9293.{options, tcpFrame}
 use Rattle.tcp.proofs.TcpLaws.{length-tcpFrame}
 use Rattle.tcp.specs.declared.Endpoints.{Endpoints}
-use Rattle.equal.specs.Alike.{theEnds, cameOfBuilder, writtenAs, unwrittenAs}
-use Rattle.equal.specs.Builders.{FrameEquals, DatagramEquals}
-use Rattle.equal.specs.Types.{Bytes, Array, GuestTyped, EndsTyped}
-use Rattle.equal.proofs.Operations.{ending, gives-one}
-use Rattle.equal.proofs.Sum.{rust-checksum}
-use Rattle.equal.proofs.Builders.{ip-frame-cut, ip-frame-given, udp-payload-cut, udp-payload-given}
-use Rattle.equal.proofs.TcpBuilder.{tcp-frame-cut, tcp-frame-given}
+use Rattle.equals_rust.specs.Alike.{theEnds, cameOfBuilder, writtenAs, unwrittenAs}
+use Rattle.equals_rust.specs.Builders.{FrameEquals, DatagramEquals}
+use Rattle.equals_rust.specs.Types.{Bytes, Array, GuestTyped, EndsTyped}
+use Rattle.equals_rust.proofs.Operations.{ending, gives-one}
+use Rattle.equals_rust.proofs.Sum.{rust-checksum}
+use Rattle.equals_rust.proofs.Builders.{ip-frame-cut, ip-frame-given, udp-payload-cut, udp-payload-given}
+use Rattle.equals_rust.proofs.TcpBuilder.{tcp-frame-cut, tcp-frame-given}
 
 -- A builder of the Rust's that cuts past a limit and gives `image` within it, beside the rule of 5 and 6.
 module _ {A : Type 0} (limit len : ℕ) (run : Run A) (value : A) (over : limit < len → run ≡ cuts) (within : len ≤ limit → run ≡ gives value) where

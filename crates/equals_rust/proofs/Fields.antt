@@ -14,7 +14,7 @@ use Rattle.base.proofs.Lists.{part-bytes, from-on}
 use Rattle.published.specs.Rust.{gives, panics, Slice, whole, lenOf, range}
 use Rattle.published.specs.Frames.{«eth_src», «eth_type», «ip_proto», «ip_src», «ip_dst», «ip_hlen», «ip_payload», u16be}
 use Rattle.rules.specs.Rules.{payloadAt, payload}
-use Rattle.equal.proofs.Operations.{index-in, range-in, range-past, array-of}
+use Rattle.equals_rust.proofs.Operations.{index-in, range-in, range-past, array-of}
 
 -- a part of `n` bytes
 pub range-at : (s : Slice) (a n : ℕ) → a + n ≤ lenOf s → range s a (a + n) ≡ gives (record { start = s .start + a; bytes = bytesAt (s .bytes) a n })

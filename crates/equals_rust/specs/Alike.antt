@@ -12,7 +12,7 @@ use Rattle.record.specs.Guest.{known, withId}
 use Rattle.record.specs.declared.guest.Guest.{Guest}
 use Rattle.published.specs.Rust.{Slice, whole, lenOf}
 use Rattle.published.specs.Frames.{Endpoints as RustEndpoints, Counted}
-use Rattle.published.specs.Backend.{Call, «handle_dns», «relay_datagram», «handle_tcp», SlirpBackend}
+use Rattle.published.specs.Backend.{CallOut, «handle_dns», «relay_datagram», «handle_tcp», SlirpBackend}
 use Rattle.rules.specs.Rules.{payload}
 use Rattle.tcp.specs.declared.Endpoints.{Endpoints}
 
@@ -26,7 +26,7 @@ abbrev pub recordOf : SlirpBackend → Guest
 recordOf self = known (self .«guest_mac») (self .counter) (self .«dhcp_xid»)
 
 -- a call of what is outside, in document 01's numbers: where the data it is handed starts in the frame, and its length
-abbrev pub handoff : Call → List ℕ
+abbrev pub handoff : CallOut → List ℕ
 handoff («handle_dns» «data» mac ip port) = 2 ∷ «data» .start ∷ lenOf «data» ∷ []
 handoff («relay_datagram» mac ip port ip′ port′ «data») = 3 ∷ «data» .start ∷ lenOf «data» ∷ []
 handoff («handle_tcp» frame) = 4 ∷ lenOf frame ∷ []
@@ -39,7 +39,7 @@ abbrev pub unwrittenAs : (numbers : List ℕ) → Writing
 unwrittenAs numbers = record { numbers = numbers; image = [] }
 
 -- What was done, in document 01's numbers and with the reply's bytes: nothing, one frame pushed, or one call. No answer has the numbers of anything else.
-abbrev pub done : (frames : List (List ℕ)) (calls : List Call) → Writing
+abbrev pub done : (frames : List (List ℕ)) (calls : List CallOut) → Writing
 done [] [] = unwrittenAs (0 ∷ [])
 done [] (call ∷ []) = unwrittenAs (handoff call)
 done [] (call ∷ call′ ∷ calls) = unwrittenAs []
@@ -65,15 +65,15 @@ abbrev pub PartOf : (frame : List ℕ) → Slice → Type 0
 PartOf frame s = s .bytes ≡ part frame (s .start) (lenOf s)
 
 -- a call that is handed the frame's own data, MAC, addresses and ports
-abbrev pub Handed : (frame : List ℕ) → Call → Type 0
-Handed frame («handle_dns» «data» mac ip port) = PartOf frame «data» × (mac ≡ sourceMac frame) × (ip ≡ sourceOf (body frame)) × (port ≡ sourcePort (payload frame))
-Handed frame («relay_datagram» mac ip port ip′ port′ «data») =
+abbrev pub HandedOver : (frame : List ℕ) → CallOut → Type 0
+HandedOver frame («handle_dns» «data» mac ip port) = PartOf frame «data» × (mac ≡ sourceMac frame) × (ip ≡ sourceOf (body frame)) × (port ≡ sourcePort (payload frame))
+HandedOver frame («relay_datagram» mac ip port ip′ port′ «data») =
     PartOf frame «data» × (mac ≡ sourceMac frame) × (ip ≡ sourceOf (body frame)) × (port ≡ sourcePort (payload frame)) × (ip′ ≡ targetOf (body frame)) × (port′ ≡ targetPort (payload frame))
-Handed frame («handle_tcp» s) = s ≡ whole frame
+HandedOver frame («handle_tcp» s) = s ≡ whole frame
 
-abbrev pub AllHanded : (frame : List ℕ) → List Call → Type 0
-AllHanded frame [] = Unit
-AllHanded frame (call ∷ calls) = Handed frame call × AllHanded frame calls
+abbrev pub AllHandedOver : (frame : List ℕ) → List CallOut → Type 0
+AllHandedOver frame [] = Unit
+AllHandedOver frame (call ∷ calls) = HandedOver frame call × AllHandedOver frame calls
 
 -- what came of a builder that took this record's id: its frame, and the record with the counter behind it
 abbrev pub cameOfBuilder : Guest → Counted → Outcome

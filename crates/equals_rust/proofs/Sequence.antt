@@ -14,10 +14,10 @@ use Rattle.rules.specs.Rules.{decision, outcomeOf, outcome}
 use Rattle.record.specs.Answer.{framing}
 use Rattle.rules.specs.declared.decision.Decision.{Decision}
 use Rattle.rules.specs.declared.decision.Decision.the-variants.{Drop, DropNoting, ArpReply, EchoReply, DhcpReply, Dns, Relay, Tcp, TooLong, CutType}
-use Rattle.equal.specs.Alike.{recordOf}
-use Rattle.equal.specs.Sequence.{Exchange, Served, AsTheRust}
-use Rattle.equal.specs.Types.{GuestTyped}
-use Rattle.equal.proofs.Demand2.{handle-equals-the-rust}
+use Rattle.equals_rust.specs.Alike.{recordOf}
+use Rattle.equals_rust.specs.Sequence.{Exchange, Served, AsTheRust}
+use Rattle.equals_rust.specs.Types.{GuestTyped}
+use Rattle.equals_rust.proofs.Demand2.{handle-equals-the-rust}
 
 -- a record stays what its types say: its MAC is kept, and its id is the old one or the next
 module _ (guest : Guest) (typed : GuestTyped guest) where

@@ -21,12 +21,12 @@ use Rattle.published.specs.Rust.{panics, cuts, whole}
 use Rattle.published.specs.Backend.{SlirpBackend}
 use Rattle.published.specs.Slirp.{send}
 use Rattle.rules.proofs.Same.{both-left, both-right}
-use Rattle.equal.specs.Alike.{recordOf}
-use Rattle.equal.specs.Types.{Bytes, GuestTyped}
-use Rattle.equal.specs.Smallest.{headerOf24, typeCutOff, pingOver}
-use Rattle.equal.specs.Where.{HeaderPast, TypeCut, PingOver}
-use Rattle.equal.proofs.OnAll.{header-past-panics}
-use Rattle.equal.proofs.Demand2.{rust-panics-exactly, rust-cuts-exactly}
+use Rattle.equals_rust.specs.Alike.{recordOf}
+use Rattle.equals_rust.specs.Types.{Bytes, GuestTyped}
+use Rattle.equals_rust.specs.Smallest.{headerOf24, typeCutOff, pingOver}
+use Rattle.equals_rust.specs.Where.{HeaderPast, TypeCut, PingOver}
+use Rattle.equals_rust.proofs.OnAll.{header-past-panics}
+use Rattle.equals_rust.proofs.Demand2.{rust-panics-exactly, rust-cuts-exactly}
 
 -- a header that runs past its frame: 34 bytes
 pub shortest-header : HeaderPast headerOf24 × (length headerOf24 ≡ 34)

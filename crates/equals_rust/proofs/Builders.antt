@@ -16,9 +16,9 @@ use Rattle.wire.specs.Rfc768.{datagram}
 use Rattle.published.specs.Rust.{Run, gives, cuts, _>>=_, Slice, lenOf, zeros, store, copy, copyFrom, u16ToBe, wrappingAddU16}
 use Rattle.published.specs.Frames.{Counted, «HOST_MAC», «ETHERTYPE_IP», «make_ip_frame», «make_udp_payload»}
 use Rattle.sums.specs.Rfc1071.{checksum}
-use Rattle.equal.specs.Types.{Bytes}
-use Rattle.equal.proofs.Operations.{copy-zeros, copy-end, copy-rest, bytes-append}
-use Rattle.equal.proofs.Sum.{rust-checksum}
+use Rattle.equals_rust.specs.Types.{Bytes}
+use Rattle.equals_rust.proofs.Operations.{copy-zeros, copy-end, copy-rest, bytes-append}
+use Rattle.equals_rust.proofs.Sum.{rust-checksum}
 
 -- the end of `make_ip_frame`: the header in its frame
 framed : (mac ip : List ℕ) (payload : Slice) (counter : ℕ) → Run Counted

@@ -12,7 +12,7 @@ use Rattle.record.specs.Answer.{Outcome}
 use Rattle.record.specs.Network.{network}
 use Rattle.record.specs.declared.guest.Guest.{Guest}
 use Rattle.published.specs.Rust.{Run, gives, panics, cuts, unfinished, whole}
-use Rattle.published.specs.Backend.{Call, «handle_tcp», SlirpBackend, withXid, pushed, calling}
+use Rattle.published.specs.Backend.{CallOut, «handle_tcp», SlirpBackend, withXid, pushed, calling}
 use Rattle.published.specs.Slirp.{send}
 use Rattle.wire.specs.Rfc792.{echo}
 use Rattle.rules.specs.Rules.{payload, decision, outcomeOf, outcome}
@@ -26,10 +26,10 @@ use Rattle.echo_reply.proofs.Echo.{length-echo}
 use Rattle.arp_reply.proofs.ReadBack.{arp-reads-back}
 use Rattle.echo_reply.proofs.ReadBack.{echo-frame-reads-back}
 use Rattle.dhcp_reply.proofs.FrameReadBack.{dhcp-reads-back}
-use Rattle.equal.specs.Alike.{recordOf, handoff, writtenAs, added, cameOf, Keeps, Handed, AllHanded}
-use Rattle.equal.specs.Types.{Bytes, GuestTyped}
-use Rattle.equal.specs.Where.{HeaderPast}
-use Rattle.equal.proofs.Ran.{Ran, send-ran}
+use Rattle.equals_rust.specs.Alike.{recordOf, handoff, writtenAs, added, cameOf, Keeps, HandedOver, AllHandedOver}
+use Rattle.equals_rust.specs.Types.{Bytes, GuestTyped}
+use Rattle.equals_rust.specs.Where.{HeaderPast}
+use Rattle.equals_rust.proofs.Ran.{Ran, send-ran}
 
 -- what a list has got
 none-added : {A : Type 0} (l : List A) → added l l ≡ []
@@ -42,7 +42,7 @@ one-added l x = drop-append-seam l (x ∷ [])
 record Came (self : SlirpBackend) (frame : List ℕ) (b : SlirpBackend) (o : Outcome) : Type 0 where
   came : cameOf self b ≡ o
   keeps : Keeps self b
-  handed : AllHanded frame (added (self .calls) (b .calls))
+  handed : AllHandedOver frame (added (self .calls) (b .calls))
 
 module _ (self : SlirpBackend) (frame : List ℕ) where
   came-quiet : (xid : ℕ) → Came self frame (withXid xid self) (unwritten (0 ∷ []) (noting xid (recordOf self)))
@@ -63,7 +63,7 @@ module _ (self : SlirpBackend) (frame : List ℕ) where
         handed = rw (none-added (self .calls)) tt;
       }
 
-  came-called : (call : Call) → Handed frame call → Came self frame (calling call self) (unwritten (handoff call) (recordOf self))
+  came-called : (call : CallOut) → HandedOver frame call → Came self frame (calling call self) (unwritten (handoff call) (recordOf self))
   came-called call h =
       record {
         came = rw (none-added (self .«rx_pending»), one-added (self .calls) call);
@@ -93,7 +93,7 @@ module _ (self : SlirpBackend) (frame : List ℕ) where
 
   -- what is to come with this room, by how the Rust's run ends
   abbrev pub Foretells : (room : ℕ) → Run SlirpBackend → Outcome → Type 0
-  Foretells room (gives b) o = Keeps self b × AllHanded frame (added (self .calls) (b .calls)) × ByRoom room (cameOf self b) o
+  Foretells room (gives b) o = Keeps self b × AllHandedOver frame (added (self .calls) (b .calls)) × ByRoom room (cameOf self b) o
   Foretells room panics o = AtPanic o
   Foretells room cuts o = TooLongPing network frame (length (payload frame)) × (o ≡ unwritten (6 ∷ length (payload frame) ∷ []) (recordOf self))
   Foretells room unfinished o = ⊥

@@ -11,7 +11,7 @@ use Rattle.record.specs.declared.answer.Verdict.{Verdict}
 use Rattle.published.specs.Rust.{Run, gives, panics, cuts, unfinished}
 use Rattle.published.specs.Frames.{Counted}
 use Rattle.record.specs.Answer.{unwritten}
-use Rattle.equal.specs.Alike.{cameOfBuilder, writtenAs, unwrittenAs}
+use Rattle.equals_rust.specs.Alike.{cameOfBuilder, writtenAs, unwrittenAs}
 
 -- one that takes an id
 pub record FrameEquals (guest : Guest) (run : Run Counted) (limit len : ℕ) (before after : List ℕ) (answer : Answer) : Type 0 where

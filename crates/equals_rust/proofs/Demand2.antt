@@ -17,11 +17,11 @@ use Rattle.published.specs.Slirp.{send, new}
 use Rattle.rules.specs.Rules.{payload, outcome, outcomeOf}
 use Rattle.record.specs.Answer.{unwritten}
 use Rattle.rules.specs.Seen.{CutMessage}
-use Rattle.equal.specs.Alike.{recordOf, added, cameOf, Keeps, AllHanded}
-use Rattle.equal.specs.Types.{Bytes, GuestTyped}
-use Rattle.equal.specs.Where.{HeaderPast, TypeCut, PingOver}
-use Rattle.equal.proofs.Foretold.{AtPanic, Foretells, foretells}
-use Rattle.equal.proofs.OnAll.{header-past-panics, type-cut-panics, ping-over-cuts, cut-decided}
+use Rattle.equals_rust.specs.Alike.{recordOf, added, cameOf, Keeps, AllHandedOver}
+use Rattle.equals_rust.specs.Types.{Bytes, GuestTyped}
+use Rattle.equals_rust.specs.Where.{HeaderPast, TypeCut, PingOver}
+use Rattle.equals_rust.proofs.Foretold.{AtPanic, Foretells, foretells}
+use Rattle.equals_rust.proofs.OnAll.{header-past-panics, type-cut-panics, ping-over-cuts, cut-decided}
 
 -- every record is a backend's, and a new one is a new backend's
 pub every-record : (guest : Guest) → (self : SlirpBackend) × (recordOf self ≡ guest)
@@ -74,7 +74,7 @@ module _ (self : SlirpBackend) (frame : List ℕ) (typed : GuestTyped (recordOf 
   pub rust-keeps : (b : SlirpBackend) → send self (whole frame) ≡ gives b → Keeps self b
   rust-keeps b e = at-end 0 (gives b) e .0
 
-  pub rust-hands-over : (b : SlirpBackend) → send self (whole frame) ≡ gives b → AllHanded frame (added (self .calls) (b .calls))
+  pub rust-hands-over : (b : SlirpBackend) → send self (whole frame) ≡ gives b → AllHandedOver frame (added (self .calls) (b .calls))
   rust-hands-over b e = at-end 0 (gives b) e .1
 
   -- Whatever answers a call with any buffer as `handle` promises: `m` is what it ensures (crates/slirp/src/entry.rt).

@@ -13,8 +13,8 @@ use Rattle.published.specs.Rust.{gives, whole}
 use Rattle.published.specs.Frames.{sumFrom, folded, checksum as rustChecksum}
 use Rattle.sums.specs.Rfc1071.{words, sum, total, fold, checksum}
 use Rattle.sums.proofs.Laws.{fold-pos, fold-small, total-step, total-last, total-none}
-use Rattle.equal.specs.Types.{Bytes}
-use Rattle.equal.proofs.Operations.{index-in}
+use Rattle.equals_rust.specs.Types.{Bytes}
+use Rattle.equals_rust.proofs.Operations.{index-in}
 
 -- the loop over the words: what is summed so far and what is left, modulo 2^32
 sum-from : (turns : ℕ) (s : List ℕ) (i running : ℕ) → running < 4294967296 → i ≤ length s → length s < i + turns

@@ -19,11 +19,11 @@ use Rattle.tcp.proofs.SumsRight.{length-pseudoHeader}
 use Rattle.tcp.proofs.TcpLaws.{with-syn, without-syn, syn-cases, limit-holds}
 use Rattle.tcp.specs.declared.Endpoints.{Endpoints}
 use Rattle.sums.specs.Rfc1071.{checksum}
-use Rattle.equal.specs.Alike.{theEnds}
-use Rattle.equal.specs.Types.{Bytes, EndsTyped}
-use Rattle.equal.proofs.Operations.{same-next, copy-over, copy-zeros, copy-rest, store-zeros, bytes-append, be16-bytes, be32-same}
-use Rattle.equal.proofs.Sum.{rust-checksum, rust-sum}
-use Rattle.equal.proofs.Builders.{ip-frame-cut, ip-frame-given}
+use Rattle.equals_rust.specs.Alike.{theEnds}
+use Rattle.equals_rust.specs.Types.{Bytes, EndsTyped}
+use Rattle.equals_rust.proofs.Operations.{same-next, copy-over, copy-zeros, copy-rest, store-zeros, bytes-append, be16-bytes, be32-same}
+use Rattle.equals_rust.proofs.Sum.{rust-checksum, rust-sum}
+use Rattle.equals_rust.proofs.Builders.{ip-frame-cut, ip-frame-given}
 
 mod-small : (x : ℕ) → x < 256 → x % 256 ≡ x
 mod-small x h = omega arith

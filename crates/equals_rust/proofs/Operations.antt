@@ -10,7 +10,7 @@ use lib.ListN.{length, getD, take, drop, length-append, length-replicate, replic
 use lib.Seq.{take-at, drop-at}
 use lib.Dec.{ltb, leb}
 use Rattle.base.specs.Bytes.{be16, be32, bytesAt}
-use Rattle.equal.specs.Types.{Bytes}
+use Rattle.equals_rust.specs.Types.{Bytes}
 use Rattle.published.specs.Rust.{Run, gives, panics, cuts, unfinished, _>>=_, Slice, lenOf, index, range, array, zeros, store, copy, u32ToBe}
 
 -- how a run ends, as a number: runs that end differently are not equal

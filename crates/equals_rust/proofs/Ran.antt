@@ -36,13 +36,13 @@ use Rattle.rules.specs.declared.decision.Decision.{Decision}
 use Rattle.rules.specs.declared.decision.Decision.the-variants.{Drop, DropNoting, ArpReply, EchoReply, DhcpReply, Dns, Relay, Tcp, TooLong, CutType}
 use Rattle.rules.proofs.Same.{same-equal}
 use Rattle.rules.proofs.Says.{either}
-use Rattle.equal.specs.Alike.{recordOf}
-use Rattle.equal.specs.Types.{Bytes, GuestTyped}
-use Rattle.equal.specs.Where.{HeaderPast}
-use Rattle.equal.proofs.Operations.{index-in, range-in, array-of, bytes-drop}
-use Rattle.equal.proofs.Lease.{ran, message-type-walks, lease-sent}
-use Rattle.equal.proofs.Ping.{answered, ping-cut, ping-answered}
-use Rattle.equal.proofs.Fields.{range-at, u16be-in, eth-src, eth-type, ip-proto, ip-src, ip-dst, payload-there, payload-past}
+use Rattle.equals_rust.specs.Alike.{recordOf}
+use Rattle.equals_rust.specs.Types.{Bytes, GuestTyped}
+use Rattle.equals_rust.specs.Where.{HeaderPast}
+use Rattle.equals_rust.proofs.Operations.{index-in, range-in, array-of, bytes-drop}
+use Rattle.equals_rust.proofs.Lease.{ran, message-type-walks, lease-sent}
+use Rattle.equals_rust.proofs.Ping.{answered, ping-cut, ping-answered}
+use Rattle.equals_rust.proofs.Fields.{range-at, u16be-in, eth-src, eth-type, ip-proto, ip-src, ip-dst, payload-there, payload-past}
 
 -- what a run comes to, by the decision
 unfoldable pub Ran : (self : SlirpBackend) (frame : List ℕ) → Run SlirpBackend → Decision → Type 0

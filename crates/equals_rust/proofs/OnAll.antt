@@ -22,11 +22,11 @@ use Rattle.rules.specs.Seen.{Carries, CutMessage, TooLongPing}
 use Rattle.rules.specs.declared.decision.Decision.the-variants.{CutType}
 use Rattle.rules.proofs.Same.{equal-same}
 use Rattle.rules.proofs.Says.{too-long-decided}
-use Rattle.equal.specs.Alike.{recordOf}
-use Rattle.equal.specs.Types.{Bytes, GuestTyped}
-use Rattle.equal.specs.Where.{HeaderPast}
-use Rattle.equal.proofs.Fields.{eth-type, ip-proto, ip-dst, payload-past}
-use Rattle.equal.proofs.Ran.{Ran, same-array, send-ran}
+use Rattle.equals_rust.specs.Alike.{recordOf}
+use Rattle.equals_rust.specs.Types.{Bytes, GuestTyped}
+use Rattle.equals_rust.specs.Where.{HeaderPast}
+use Rattle.equals_rust.proofs.Fields.{eth-type, ip-proto, ip-dst, payload-past}
+use Rattle.equals_rust.proofs.Ran.{Ran, same-array, send-ran}
 
 module _ (self : SlirpBackend) (frame : List ℕ) where
   -- up to the protocol
