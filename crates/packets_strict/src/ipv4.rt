@@ -30,13 +30,16 @@ pub fn is_ipv4(packet: &[u8]) -> bool
     sum(0, bytes) == ipv4::SUMS_RIGHT
 }
 
-// Whether the reserved bit, more-fragments and the offset are zero: all of the field but don't-fragment.
+// Whether the reserved bit is 0 and the packet no fragment.
 fn is_unfragmented(packet: &[u8]) -> bool
     ensures { λ r. ⌜ Tells r (Unfragmented (now (packet .entry))) ⌝ }
 {
     let field = u16be(packet, ipv4::FLAGS_AND_OFFSET);
-    if field == 0 {
-        return true;
+    if ipv4::reserved_in(field) != 0 {
+        return false;
     }
-    field == ipv4::DONT_FRAGMENT
+    if ipv4::more_in(field) {
+        return false;
+    }
+    ipv4::offset_in(field) == 0
 }

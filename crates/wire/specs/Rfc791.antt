@@ -24,13 +24,23 @@ identification packet = u16At packet 4
 abbrev pub flagsAndOffset : List ℕ → ℕ
 flagsAndOffset packet = u16At packet 6
 
--- flags: "Bit 2: (MF) 0 = Last Fragment, 1 = More Fragments"
-unfoldable pub moreFragments : (packet : List ℕ) → Bool
-moreFragments packet = eqb (flagsAndOffset packet / 8192 % 2) 1
+-- the parts of that field. "Bit 0: reserved, must be zero"
+abbrev pub reservedIn : (field : ℕ) → ℕ
+reservedIn field = field / 32768
+
+-- "Bit 2: (MF) 0 = Last Fragment, 1 = More Fragments"
+abbrev pub moreIn : (field : ℕ) → Bool
+moreIn field = eqb (field / 8192 % 2) 1
 
 -- "The fragment offset is measured in units of 8 octets (64 bits)."
+abbrev pub offsetIn : (field : ℕ) → ℕ
+offsetIn field = field % 8192 * 8
+
+unfoldable pub moreFragments : (packet : List ℕ) → Bool
+moreFragments packet = moreIn (flagsAndOffset packet)
+
 unfoldable pub fragmentOffset : (packet : List ℕ) → ℕ
-fragmentOffset packet = flagsAndOffset packet % 8192 * 8
+fragmentOffset packet = offsetIn (flagsAndOffset packet)
 
 abbrev pub timeToLive : List ℕ → ℕ
 timeToLive packet = u8At packet 8

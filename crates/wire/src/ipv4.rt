@@ -3,7 +3,7 @@ ghost use mathlib.Core.Path.{_≡_};
 ghost use Prim.Native.Nat.{_≤_};
 ghost use lib.ListN.{drop};
 ghost use Rattle.wire.specs.Rfc894.{body};
-ghost use Rattle.wire.specs.Rfc791.{version as Rfc791·version, headerLength, moreFragments, fragmentOffset, protocolOf, sourceOf, targetOf};
+ghost use Rattle.wire.specs.Rfc791.{version as Rfc791·version, headerLength, reservedIn, moreIn, offsetIn, moreFragments, fragmentOffset, protocolOf, sourceOf, targetOf};
 use crate::bytes::address_at;
 use crate::bytes::byte_at;
 use crate::bytes::u16be;
@@ -29,8 +29,6 @@ pub const SOURCE: usize = 12;
 
 pub const TARGET: usize = 16;
 
-// Flags and offset of a packet that is whole and must stay so.
-pub const DONT_FRAGMENT: u16 = 0x4000;
 
 // Values of the protocol.
 pub const ICMP: u8 = 1;
@@ -56,17 +54,36 @@ pub fn header_length(buf: &[u8], at: usize) -> usize
     ((byte_at(buf, at) & 0x0f) as usize) << 2
 }
 
-pub fn more_fragments(packet: &[u8]) -> bool
-    ensures { λ r. ⌜ r ≡ moreFragments (now (packet .entry)) ⌝ }
+// The parts of the field of flags and offset, split by shift and mask.
+pub fn reserved_in(field: u16) -> u16
+    ensures { λ r. ⌜ r ≡ reservedIn field ⌝ }
 {
-    (u16be(packet, FLAGS_AND_OFFSET) >> 13) & 1 == 1
+    field >> 15
+}
+
+pub fn more_in(field: u16) -> bool
+    ensures { λ r. ⌜ r ≡ moreIn field ⌝ }
+{
+    (field >> 13) & 1 == 1
 }
 
 // In bytes; the field counts blocks of eight.
+pub fn offset_in(field: u16) -> usize
+    ensures { λ r. ⌜ (r ≡ offsetIn field) × (r ≤ 65528) ⌝ }
+{
+    ((field & 0x1fff) as usize) << 3
+}
+
+pub fn more_fragments(packet: &[u8]) -> bool
+    ensures { λ r. ⌜ r ≡ moreFragments (now (packet .entry)) ⌝ }
+{
+    more_in(u16be(packet, FLAGS_AND_OFFSET))
+}
+
 pub fn fragment_offset(packet: &[u8]) -> usize
     ensures { λ r. ⌜ (r ≡ fragmentOffset (now (packet .entry))) × (r ≤ 65528) ⌝ }
 {
-    ((u16be(packet, FLAGS_AND_OFFSET) & 0x1fff) as usize) << 3
+    offset_in(u16be(packet, FLAGS_AND_OFFSET))
 }
 
 // The same of the packet in a frame, under the Rust's names.
