@@ -36,7 +36,7 @@ returns-3 c =
     (λ e.
     record {
       reserved = omega (arith, field .u16be .ensures, reserved .reserved-in .ensures, more .before .if1 .left);
-      more-fragments = omega (arith, field .u16be .ensures, clear);
+      more-fragments = sym (ap (λ (n : ℕ). n / 8192 % 2) (field .u16be .ensures)) ∙ clear;
       offset = sym low ∙ omega (arith, c .offset-in .ensures .0, e);
     })
     (λ a. let none = low ∙ a .offset in omega (arith, c .offset-in .ensures .0))
