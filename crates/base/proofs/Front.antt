@@ -37,6 +37,11 @@ behind {b} {front} {now} {len} f piece n e room {after} p =
     same : length (put 0 front b) ≡ length b
     same = length-put 0 front b (omega (arith, long))
 
+-- the same of a piece that is known to be this one
+pub behind-as : {b front now : List ℕ} {len : ℕ} → Front b front len now → (piece : List ℕ) (n : ℕ) → length piece ≡ n → len + n ≤ length b
+    → (put-there : List ℕ) → put-there ≡ piece → {after : List ℕ} → after ≡ putIfFits len put-there now → Front b (front ++ piece) (len + n) after
+behind-as {b} {front} {now} {len} f piece n e room put-there same p = behind f piece n e room (p ∙ ap (λ (s : List ℕ). putIfFits len s now) same)
+
 -- the same of a piece written at the front of what lies from `len` on, as the code hands a part of a buffer on
 pub behind-in-part : {b front now : List ℕ} {len : ℕ} → Front b front len now → (piece : List ℕ) (n : ℕ) → length piece ≡ n → len + n ≤ length b
     → (rest : List ℕ) → rest ≡ put 0 piece (take (length now - len) (drop len now))
@@ -50,3 +55,12 @@ behind-in-part {b} {front} {now} {len} f piece n e room rest r {after} p =
   where
     same : length now ≡ length b
     same = ap length (f .bytes) ∙ length-put 0 front b (omega (arith, f .long))
+
+-- two pieces, one behind the other, that fit together
+pub two-pieces : (first second : List ℕ) (n m : ℕ) (b one two now after : List ℕ) → length first ≡ n → length second ≡ m → n + m ≤ length b → one ≡ first → two ≡ second
+    → now ≡ putIfFits 0 one b → after ≡ putIfFits n two now → after ≡ putIfFits 0 (first ++ second) b
+two-pieces first second n m b one two now after ln lm room e f p q =
+    let alone = behind (nothing-yet b) first n ln (omega arith) (p ∙ ap (λ (x : List ℕ). putIfFits 0 x b) e) in
+    let front : Front b first n now = record { bytes = alone .bytes; long = ln } in
+    let both = behind front second m lm room (q ∙ ap (λ (x : List ℕ). putIfFits n x now) f) in
+    both .bytes ∙ sym (fits 0 (first ++ second) b (omega (arith, both .long)))

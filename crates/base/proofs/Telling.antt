@@ -56,6 +56,13 @@ pub at-most-2 : (x : ℕ) → (x ≡ 1) ⊎ (x ≡ 2) → x ≤ 2
 at-most-2 x (inl e) = omega arith
 at-most-2 x (inr e) = omega arith
 
--- what is told of a slice from `n` on is told of the part
-pub of-rest : (A : List ℕ → Type 0) (n : ℕ) (s : List ℕ) (b : Bool) → Tells b (A (take (length s - n) (drop n s))) → Tells b (A (drop n s))
-of-rest A n s b t = subst (λ (m : List ℕ). Tells b (A m)) (from-on n s) t
+-- what a test of the slice from `n` on, as the code takes it, tells of the part: failed and passed
+module _ (A : List ℕ → Type 0) (n : ℕ) (s : List ℕ) (b : Bool) (t : Tells b (A (take (length s - n) (drop n s)))) where
+  of-rest : Tells b (A (drop n s))
+  of-rest = subst (λ (m : List ℕ). Tells b (A m)) (from-on n s) t
+
+  pub rest-not : not b ≡ true → A (drop n s) → ⊥
+  rest-not = tells-not b of-rest
+
+  pub rest-yes : not b ≡ false → A (drop n s)
+  rest-yes = tells-yes b of-rest

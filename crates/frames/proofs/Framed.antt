@@ -1,6 +1,6 @@
 -- The headers put in front of a payload that lies at 34 make its frame and leave the rest of the buffer alone; a payload put there first is framed so.
 use Prim.Native.Nat.{ℕ, _+_, _≤_}
-use mathlib.Core.Path.{_≡_, ap, sym, _∙_}
+use mathlib.Core.Path.{_≡_, ap, _∙_}
 use mathlib.Core.List.{List, _++_}
 use native.Mathlib.Omega.{arith}
 use lib.ListN.{length, drop, length-take, length-drop}
@@ -9,24 +9,12 @@ use Rattle.record.specs.declared.guest.Guest.{Guest}
 use Rattle.record.specs.declared.answer.Answer.{Answer}
 use Rattle.record.specs.Answer.{Meets, spending, building}
 use Rattle.base.specs.Bytes.{part}
-use Rattle.base.specs.Buffer.{put, putIfFits}
-use Rattle.base.proofs.Front.{nothing-yet, behind}
-use Rattle.record.specs.Network.{gatewayMac}
-use Rattle.wire.specs.Rfc791.{header}
-use Rattle.wire.specs.Rfc894.{ethernet}
+use Rattle.base.specs.Buffer.{put}
 use Rattle.frames.specs.Frames.{headers, ipFrame}
-use Rattle.base.proofs.Lists.{fits, put-before, length-put, part-put, drop-put}
-use Rattle.frames.proofs.Lengths.{length-ethernet, length-header, length-headers, length-ipFrame}
+use Rattle.base.proofs.Lists.{put-before, length-put, part-put, drop-put}
+use Rattle.frames.proofs.Lengths.{length-headers, length-ipFrame}
 
 module _ (mac source target : List ℕ) (six : length mac ≡ 6) (four : length source ≡ 4) (four′ : length target ≡ 4) where
-  -- the two headers, one behind the other
-  pub headers-put : (total id protocol : ℕ) (b e h now after : List ℕ) → 34 ≤ length b → e ≡ ethernet mac gatewayMac 0x0800 → h ≡ header total id protocol source target
-      → now ≡ putIfFits 0 e b → after ≡ putIfFits 14 h now → after ≡ putIfFits 0 (headers mac total id protocol source target) b
-  headers-put total id protocol b e h now after room ee eh p q =
-      let one = behind (nothing-yet b) (ethernet mac gatewayMac 0x0800) 14 (length-ethernet mac 0x0800 six) (omega arith) (p ∙ ap (λ (x : List ℕ). putIfFits 0 x b) ee) in
-      let two = behind one (header total id protocol source target) 20 (length-header source target four four′ total id protocol) room (q ∙ ap (λ (x : List ℕ). putIfFits 14 x now) eh) in
-      two .bytes ∙ sym (fits 0 (headers mac total id protocol source target) b (omega (arith, length-headers source target four four′ mac total id protocol six)))
-
   module _ (id protocol len : ℕ) (b : List ℕ) (fits : 34 + len ≤ length b) where
     length-part : length (part b 34 len) ≡ len
     length-part = simp (length-take, length-drop) (omega arith)

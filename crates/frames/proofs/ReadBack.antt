@@ -3,7 +3,7 @@ use Prim.Native.Nat.{ℕ, _+_}
 use mathlib.Core.Path.{_≡_, refl}
 use mathlib.Core.List.{List, _++_}
 use native.Mathlib.Omega.{arith}
-use lib.ListN.{length}
+use lib.ListN.{length, drop}
 use Rattle.wire.specs.Rfc894.{targetMac, sourceMac, typeOf, body}
 use Rattle.record.specs.Network.{gatewayMac}
 use Rattle.wire.specs.Rfc768.{datagram}
@@ -13,7 +13,10 @@ use Rattle.sums.specs.Rfc1071.{checksum}
 use Rattle.wire.specs.Rfc791.{header, headerWith}
 use Rattle.frames.specs.Frames.{ipFrame}
 use Rattle.base.proofs.Lists.{all-bytes}
-use Rattle.frames.proofs.Lengths.{drop-14}
+use Rattle.base.specs.Bytes.{part}
+use Rattle.sums.specs.Rfc1071.{SumsRight}
+use Rattle.frames.proofs.Lengths.{drop-14, drop-34, length-ipFrame}
+use Rattle.frames.proofs.SumsRight.{frame-header-sums-right}
 
 -- RFC 791, section 3.1, with document 01's values
 pub record PacketOf (packet : List ℕ) (len id protocol : ℕ) (source target : List ℕ) : Type 0 where
@@ -73,3 +76,27 @@ pub ethernet-reads-back : (mac source target payload : List ℕ) (id protocol : 
     × (typeOf (ipFrame mac id protocol source target payload) ≡ 0x0800)
 unfolding ipFrame
 ethernet-reads-back mac source target payload id protocol six = (rw (all-bytes mac 6 six), rw (all-bytes mac 6 six), rw (all-bytes mac 6 six))
+
+-- a payload in its IPv4 packet, in its Ethernet frame from the gateway
+pub record FrameOf (frame mac source target : List ℕ) (id protocol : ℕ) (payload : List ℕ) : Type 0 where
+  pub long : length frame ≡ 34 + length payload
+  pub to : targetMac frame ≡ mac
+  pub from : sourceMac frame ≡ gatewayMac
+  pub type : typeOf frame ≡ 0x0800
+  pub packet : PacketOf (body frame) (length payload) id protocol source target
+  pub header-sums : SumsRight (part frame 14 20)
+  pub carried : drop 34 frame ≡ payload
+
+pub frame-of : (mac source target : List ℕ) (id protocol : ℕ) (payload : List ℕ) → length mac ≡ 6 → length source ≡ 4 → length target ≡ 4
+    → FrameOf (ipFrame mac id protocol source target payload) mac source target id protocol payload
+frame-of mac source target id protocol payload six four four′ =
+    let e = ethernet-reads-back mac source target payload id protocol six in
+    record {
+      long = length-ipFrame source target four four′ mac payload id protocol six;
+      to = e .0;
+      from = e .1;
+      type = e .2;
+      packet = frame-reads-back source target four four′ mac payload id protocol six;
+      header-sums = frame-header-sums-right source target four four′ mac payload id protocol six;
+      carried = drop-34 mac source target payload id protocol six four four′;
+    }

@@ -4,13 +4,11 @@ ghost use lib.ListN.{length};
 ghost use Rattle.base.specs.Buffer.{putIfFits};
 ghost use Rattle.record.specs.Answer.{Meets};
 ghost use Rattle.frames.specs.Builders.{makeIpFrame, makeIpFrameInPlace};
-ghost use Rattle.wire.specs.Rfc894.{ethernet};
-ghost use Rattle.record.specs.Network.{gatewayMac};
 ghost use Rattle.frames.specs.Frames.{headers};
 ghost use Rattle.wire.specs.Rfc791.{headerWith, header as Rfc791·header};
+use crate::ethernet::ethernet_header;
 use base::put;
 use record::Answer;
-use record::GATEWAY_MAC;
 use record::Guest;
 use record::Verdict;
 use sums::checksum;
@@ -94,31 +92,10 @@ pub fn put_headers(
     if out.len() < PAYLOAD_AT {
         return;
     }
-    let ethernet = ethernet_header(dst_mac);
+    let outer = ethernet_header(dst_mac, ethernet::IPV4);
     let ip = header(total, id, proto, src_ip, dst_ip);
-    put(out, 0, &ethernet);
+    put(out, 0, &outer);
     put(out, HEADER_AT, &ip);
-}
-
-fn ethernet_header(mac: [u8; 6]) -> [u8; 14]
-    ensures { λ r. ⌜ r ≡ ethernet mac gatewayMac 0x0800 ⌝ }
-{
-    [
-        mac[0],
-        mac[1],
-        mac[2],
-        mac[3],
-        mac[4],
-        mac[5],
-        GATEWAY_MAC[0],
-        GATEWAY_MAC[1],
-        GATEWAY_MAC[2],
-        GATEWAY_MAC[3],
-        GATEWAY_MAC[4],
-        GATEWAY_MAC[5],
-        0x08,
-        0x00,
-    ]
 }
 
 fn header(total: u16, id: u16, proto: u8, src_ip: [u8; 4], dst_ip: [u8; 4]) -> [u8; 20]

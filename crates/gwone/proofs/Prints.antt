@@ -4,7 +4,7 @@ use mathlib.Core.Path.{_≡_, refl}
 use mathlib.Core.List.{List, [], _∷_}
 use borrow.Author.Tests.{lt-ltb}
 use lib.ListN.{length}
-use Rattle.rules.specs.Rfc826.{replyTo}
+use Rattle.arp_reply.specs.Reply.{replyTo}
 use Rattle.rules.specs.Rules.{decision, arpDecision, outcomeOf, outcome}
 use Rattle.record.specs.Answer.{framing}
 use Rattle.gwone.specs.Text.{ascii, decimal, hex}

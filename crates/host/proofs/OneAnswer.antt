@@ -5,7 +5,8 @@ use mathlib.Core.Path.{_≡_, refl, ap, sym, _∙_}
 use lib.Dec.{eqb}
 use lib.ListN.{length, drop, getD}
 use Rattle.record.proofs.OneAnswer.{one-outcome, verdictOf}
-use Rattle.record.specs.Answer.{Meets, Outcome, Writing, saidFor}
+use Rattle.record.specs.Answer.{Meets, Outcome, Writing, paper}
+use Rattle.record.specs.Guest.{known}
 use Rattle.record.specs.Network.{network}
 use mathlib.Core.Bool.{cond}
 use Rattle.record.specs.declared.answer.Answer.{Answer}
@@ -17,14 +18,14 @@ use Rattle.grammar.specs.Grammar.{Layer, laid}
 use Rattle.grammar.specs.Report.{Report, arpKind, icmpKind, udpKind, dhcpKind, tcpKind, otherIPv4Kind, parts, refused}
 use Rattle.host.specs.Parts.{Reported, kindNumber, numberOf, places, placesOf}
 use Rattle.host.specs.Exported.{Built, Sent, Told, padded}
-use Rattle.reader.specs.Told.{told}
+use Rattle.reader.specs.Reported.{reportOf as told}
 use Rattle.reader.specs.declared.parts.Reading.{Reading}
 use Rattle.reader.specs.declared.parts.Reading.the-variants.{Arp, Icmp, Udp, Dhcp, Tcp as Reading·Tcp, OtherIpv4, Outside}
 use Rattle.rules.specs.Rules.{outcome}
 
 -- the verdict, back from the number and the values
-untold : (v : Verdict) → verdictOf (padded (saidFor v)) ≡ v
-unfolding saidFor padded verdictOf
+untold : (v : Verdict) → verdictOf (padded (paper v)) ≡ v
+unfolding paper padded verdictOf
 untold Drop = refl
 untold (Reply n) = refl
 untold (Dns start len) = refl
@@ -35,8 +36,8 @@ untold (TooLong len) = refl
 untold (CutType place) = refl
 
 -- different verdicts are told differently
-pub told-one-to-one : (v w : Verdict) → padded (saidFor v) ≡ padded (saidFor w) → v ≡ w
-told-one-to-one v w e = sym (untold v) ∙ ap verdictOf e ∙ untold w
+pub walked-one-to-one : (v w : Verdict) → padded (paper v) ≡ padded (paper w) → v ≡ w
+walked-one-to-one v w e = sym (untold v) ∙ ap verdictOf e ∙ untold w
 
 -- a layer, back from its three places
 abbrev layerAt : List ℕ → ℕ → Layer
@@ -88,7 +89,7 @@ module _ (before after after′ : List ℕ) (n n′ : ℕ) (vs vs′ : List ℕ)
   pub built-answers-once : (lent i i′ : ℕ) (made : Guest → Outcome) → Built lent made before after n vs i → Built lent made before after′ n′ vs′ i′
       → (n ≡ n′) × (vs ≡ vs′) × (after ≡ after′) × (i ≡ i′)
   built-answers-once lent i i′ made t t′ =
-      let some : Guest = record { mac = []; id = lent; xid = 0 } in
+      let some : Guest = known [] lent 0 in
       let same = one-telling (made some .writing) (t .told some refl) (t′ .told some refl) in
       (same .0, same .1, same .2, t .id some refl ∙ sym (t′ .id some refl))
 
@@ -99,6 +100,6 @@ yavoledu-read-answers-once frame before after after′ n n′ s s′ =
 
 -- What `handle` answers on the same input is what `yavoledu_send` tells: the verdict by its number and values, the buffer and the record.
 pub tells-what-handle-answers : (o : Outcome) (before after after′ : List ℕ) (a : Answer) (n : ℕ) (vs : List ℕ) (g : Guest)
-    → Meets o before after a → Sent o before after′ n vs g → (n ∷ vs ≡ padded (saidFor (a .verdict))) × (after′ ≡ after) × (g ≡ a .guest)
+    → Meets o before after a → Sent o before after′ n vs g → (n ∷ vs ≡ padded (paper (a .verdict))) × (after′ ≡ after) × (g ≡ a .guest)
 tells-what-handle-answers o before after after′ a n vs g m s =
     (s .told .numbers ∙ ap padded (sym (m .wrote .numbers)), s .told .bytes ∙ sym (m .wrote .bytes), s .guest ∙ sym (m .guest))

@@ -4,30 +4,30 @@ use mathlib.Core.Bool.{Bool, true, false, cond}
 use mathlib.Core.List.{List, _∷_}
 use mathlib.Core.Path.{_≡_, sym, ap, _∙_}
 use lib.Dec.{ltb}
-use Rattle.record.specs.Answer.{Meets, Writing, Wrote, saidFor, spending}
-use Rattle.record.specs.Guest.{spent}
+use Rattle.record.specs.Answer.{Meets, Writing, Wrote, paper, spending}
+use Rattle.record.specs.Guest.{spent, withId}
 use Rattle.record.specs.declared.answer.Answer.{Answer}
 use Rattle.record.specs.declared.guest.Guest.{Guest}
 use Rattle.record.specs.declared.answer.Verdict.{Verdict}
 use Rattle.grammar.specs.Report.{Reads}
 use Rattle.host.specs.Parts.{Reported, numberOf, placesOf}
 use Rattle.host.specs.Exported.{Built, Told, padded}
-use Rattle.reader.specs.Told.{told as told·reading}
+use Rattle.reader.specs.Reported.{reportOf as told·reading}
 use Rattle.reader.specs.declared.parts.Reading.{Reading}
 
 pub told-of : {w : Writing} {before after : List ℕ} {v : Verdict} {number : ℕ} {values : List ℕ}
-    → Wrote w before after v → number ∷ values ≡ padded (saidFor v) → Told w before after number values
+    → Wrote w before after v → number ∷ values ≡ padded (paper v) → Told w before after number values
 told-of wrote e = record { numbers = e ∙ ap padded (wrote .numbers); bytes = wrote .bytes }
 
 -- the id afterwards goes by the id before
 id-after : (b d : Bool) (g h : Guest) → h .id ≡ g .id → cond b g (cond d g (spent g)) .id ≡ cond b h (cond d h (spent h)) .id
 id-after true d g h e = sym e
 id-after false true g h e = sym e
-id-after false false g h e = ap (λ (i : ℕ). spent (record { mac = g .mac; id = i; xid = g .xid }) .id) (sym e)
+id-after false false g h e = ap (λ (i : ℕ). spent (withId i g) .id) (sym e)
 
 -- A builder looks at nothing of the record but the id: what it does with one record is what it does with every record of the same id.
 pub built-of : (limit len need room : ℕ) (image : ℕ → List ℕ) (used : Guest) (lent : ℕ) {before after : List ℕ} {a : Answer} {number : ℕ} {values : List ℕ} {stored : ℕ}
-    → used .id ≡ lent → Meets (spending used limit len need room (image (used .id))) before after a → number ∷ values ≡ padded (saidFor (a .verdict)) → stored ≡ a .guest .id
+    → used .id ≡ lent → Meets (spending used limit len need room (image (used .id))) before after a → number ∷ values ≡ padded (paper (a .verdict)) → stored ≡ a .guest .id
     → Built lent (λ (guest : Guest). spending guest limit len need room (image (guest .id))) before after number values stored
 unfolding spending
 built-of limit len need room image used lent e meets told stored =

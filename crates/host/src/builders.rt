@@ -3,7 +3,8 @@ ghost use lib.ListN.{length};
 ghost use mathlib.Core.Path.{_≡_};
 ghost use mathlib.Core.List.{[], _∷_};
 ghost use Rattle.frames.specs.Builders.{makeIpFrame, makeUdpPayload};
-ghost use Rattle.record.specs.Answer.{saidFor};
+ghost use Rattle.record.specs.Answer.{paper};
+ghost use Rattle.record.specs.Guest.{known};
 ghost use Rattle.host.specs.Exported.{Built, Told, padded};
 ghost use Rattle.sums.specs.Rfc1071.{checksum as Rfc1071·checksum};
 ghost use Rattle.tcp.specs.Builders.{makeTcpFrame};
@@ -91,7 +92,7 @@ pub extern "C" fn yavoledu_checksum(data: &[u8]) -> u16
 
 // Stores the id of the record that came back, and tells the verdict.
 fn stored(answer: Answer, id: &mut u16, values: &mut [usize; 2]) -> u32
-    ensures { λ r. ⌜ (r ∷ now (values .exit) ≡ padded (saidFor (answer .verdict))) × (now (id .exit) ≡ answer .guest .id) ⌝ }
+    ensures { λ r. ⌜ (r ∷ now (values .exit) ≡ padded (paper (answer .verdict))) × (now (id .exit) ≡ answer .guest .id) ⌝ }
 {
     let after = answer.guest;
     *id = after.id;
@@ -101,11 +102,7 @@ fn stored(answer: Answer, id: &mut u16, values: &mut [usize; 2]) -> u32
 
 // Some record with this id: a builder looks at nothing else of it.
 fn of_id(id: u16) -> Guest
-    ensures { λ r. ⌜ r ≡ record { mac = 0 ∷ 0 ∷ 0 ∷ 0 ∷ 0 ∷ 0 ∷ []; id = id; xid = 0 } ⌝ }
+    ensures { λ r. ⌜ r ≡ known (0 ∷ 0 ∷ 0 ∷ 0 ∷ 0 ∷ 0 ∷ []) id 0 ⌝ }
 {
-    Guest {
-        mac: [0; 6],
-        id,
-        xid: 0,
-    }
+    Guest::of([0; 6], id, 0)
 }

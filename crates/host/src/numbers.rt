@@ -1,12 +1,12 @@
 // A verdict as C is told it: document 01's number, which is returned, and its values.
 ghost use mathlib.Core.List.{[], _∷_};
 ghost use mathlib.Core.Path.{_≡_};
-ghost use Rattle.record.specs.Answer.{saidFor};
+ghost use Rattle.record.specs.Answer.{paper};
 ghost use Rattle.host.specs.Exported.{padded};
 use record::Verdict;
 
 pub(crate) fn numbered(verdict: Verdict, values: &mut [usize; 2]) -> u32
-    ensures { λ r. ⌜ r ∷ now (values .exit) ≡ padded (saidFor verdict) ⌝ }
+    ensures { λ r. ⌜ r ∷ now (values .exit) ≡ padded (paper verdict) ⌝ }
 {
     match verdict {
         Verdict::Drop => told(0, 0, 0, values),

@@ -2,7 +2,7 @@
 ghost use mathlib.Core.List.{[], _∷_, _++_};
 ghost use mathlib.Core.Path.{_≡_};
 ghost use Rattle.host.specs.Parts.{Reported, places};
-ghost use Rattle.reader.specs.Told.{layerOf};
+ghost use Rattle.reader.specs.Reported.{layerOf};
 use reader::Layer;
 use reader::Reading;
 use reader::read;

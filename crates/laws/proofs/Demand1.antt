@@ -9,7 +9,7 @@ use borrow.Author.Tests.{ltb-true, ltb-false}
 use lib.Dec.{ltb}
 use lib.ListN.{length, getD, take, drop}
 use lib.Seq.{take-append-seam, drop-append-seam}
-use Rattle.dhcp.proofs.ReadBack.{FourBytes}
+use Rattle.record.specs.Network.{FourBytes}
 use Rattle.record.specs.Answer.{paper, Meets}
 use Rattle.record.specs.Guest.{spent}
 use Rattle.record.specs.Network.{network}
@@ -27,8 +27,10 @@ use Rattle.rules.specs.Seen.{Carries, CutMessage, Query, Outbound, EchoAsked, T
 use Rattle.rules.specs.declared.decision.Decision.{Decision}
 use Rattle.rules.specs.declared.decision.Decision.the-variants.{Drop, DropNoting, ArpReply, EchoReply, DhcpReply, Dns, Relay, Tcp, TooLong, CutType}
 use Rattle.rules.proofs.Says.{Says, says, tcp-decided, echo-answered, too-long-decided}
-use Rattle.slirp.proofs.Echo.{length-echo}
-use Rattle.slirp.proofs.ReadBack.{arp-reads-back, echo-frame-reads-back, dhcp-reads-back}
+use Rattle.echo_reply.proofs.Echo.{length-echo}
+use Rattle.arp_reply.proofs.ReadBack.{arp-reads-back}
+use Rattle.echo_reply.proofs.ReadBack.{echo-frame-reads-back}
+use Rattle.dhcp_reply.proofs.FrameReadBack.{dhcp-reads-back}
 use Rattle.laws.specs.Table.{built, replyAtAmpleRoom, Returned, Unchanged, kept, noted, AtMostXid, ReplyBytesIdXid, Changed}
 
 -- every answer has a number, and it is one of 0 to 7 (where there were none, this would read 8)

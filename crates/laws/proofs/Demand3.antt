@@ -4,7 +4,8 @@ use mathlib.Core.Path.{_≡_}
 use mathlib.Core.Logic.{_↔_}
 use mathlib.Core.List.{List, [], _∷_}
 use lib.ListN.{length, take, drop}
-use Rattle.dhcp.proofs.ReadBack.{FourBytes, four-bytes}
+use Rattle.record.specs.Network.{FourBytes}
+use Rattle.record.proofs.Addresses.{four-bytes}
 use Rattle.base.specs.Bytes.{part}
 use Rattle.record.specs.Answer.{paper, Wrote, Meets}
 use Rattle.frames.specs.Builders.{makeIpFrame, makeIpFrameInPlace, makeUdpPayload}
@@ -17,7 +18,7 @@ use Rattle.record.specs.declared.network.Network.{Network}
 use Rattle.frames.proofs.InBuffer.{ip-frame-in-buffer, ip-frame-in-place-in-buffer, datagram-in-buffer}
 use Rattle.grammar.specs.Grammar.{Derivation, Derives}
 use Rattle.grammar.specs.Report.{refused, partsOf, Reads}
-use Rattle.reader.specs.Told.{told}
+use Rattle.reader.specs.Reported.{reportOf as told}
 use Rattle.reader.specs.declared.parts.Reading.{Reading}
 use Rattle.grammar.proofs.Exact.{parts-reported, derivation-behind, derived-taken, underived-refused}
 use Rattle.grammar.proofs.Unique.{unique}

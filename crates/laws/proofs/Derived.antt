@@ -12,8 +12,9 @@ use Rattle.frames.proofs.ReadBack.{DatagramOf, datagram-reads-back}
 use Rattle.grammar.specs.Grammar.{body, payload, CarriesDHCP, dataOffset, unsummed, UDP, Derives}
 use Rattle.grammar.proofs.Places.{placed}
 use Rattle.wire.specs.Rfc792.{echo}
-use Rattle.rules.specs.Rfc826.{arpReply}
-use Rattle.slirp.proofs.ReadBack.{arp-reads-back, echo-reads-back}
+use Rattle.arp_reply.specs.Reply.{arpReply}
+use Rattle.arp_reply.proofs.ReadBack.{arp-reads-back}
+use Rattle.echo_reply.proofs.ReadBack.{echo-reads-back}
 use Rattle.tcp.specs.Rfc9293.{options, segment, covered}
 use Rattle.tcp.specs.declared.Endpoints.{Endpoints}
 use Rattle.tcp.proofs.ReadBack.{SegmentOf, segment-reads-back}

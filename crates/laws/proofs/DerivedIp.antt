@@ -6,7 +6,7 @@ use native.Mathlib.Omega.{arith}
 use lib.ListN.{length, take, drop, length-drop}
 use lib.Seq.{drop-drop, getD-drop}
 use Rattle.base.specs.Bytes.{u8At, part}
-use Rattle.frames.specs.Rfc768
+use Rattle.wire.specs.Rfc768
 use Rattle.wire.specs.Rfc791.{header, headerWith}
 use Rattle.frames.specs.Frames.{ipFrame}
 use Rattle.record.proofs.InBuffer.{InBuffer}

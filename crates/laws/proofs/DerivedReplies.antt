@@ -5,8 +5,8 @@ use mathlib.Core.Logic.{_⊎_, inl, inr}
 use mathlib.Core.List.{List}
 use native.Mathlib.Omega.{arith}
 use lib.ListN.{length, drop}
-use Rattle.dhcp.specs.Rfc2131.{reply}
-use Rattle.dhcp.proofs.ReadBack.{FourBytes}
+use Rattle.dhcp_reply.specs.Reply.{reply}
+use Rattle.record.specs.Network.{FourBytes}
 use Rattle.wire.specs.Rfc791.{sourceOf}
 use Rattle.wire.specs.Rfc894.{body, sourceMac}
 use Rattle.record.specs.Network.{broadcastOf}
@@ -15,7 +15,7 @@ use Rattle.record.specs.declared.guest.Guest.{Guest}
 use Rattle.record.specs.declared.network.Network.{Network}
 use Rattle.grammar.specs.Grammar.{Derivation, Derives}
 use Rattle.wire.specs.Rfc792.{echo}
-use Rattle.rules.specs.Rfc2131.{dhcpFrame}
+use Rattle.dhcp_reply.specs.Reply.{dhcpFrameTo}
 use Rattle.rules.specs.Rules.{decision}
 use Rattle.rules.specs.declared.decision.Decision.{Decision}
 use Rattle.rules.specs.declared.decision.Decision.the-variants.{Drop, DropNoting, ArpReply, EchoReply, DhcpReply, Dns, Relay, Tcp, TooLong, CutType}
@@ -33,7 +33,7 @@ among-8 type (inr e) = omega arith
 
 module _ (net : Network) (guest : Guest) (frame : List ℕ) (four : FourBytes net) (six : length (guest .mac) ≡ 6) where
   derived-as : (d : Decision) → Says net frame d → (n : ℕ) → n ≡ length (built net guest frame d) → 0 < n → DerivedAs n (built net guest frame d) d
-  unfolding Says dhcpFrame
+  unfolding Says dhcpFrameTo
   derived-as ArpReply s n e p = arp-derived net frame (four .gateway) n e
   derived-as (EchoReply start) s n e p =
       let eight : 8 ≤ length (drop start frame) = subst (λ (k : ℕ). 8 ≤ length (drop k frame)) (sym (s .1)) (s .0 .whole) in

@@ -3,7 +3,7 @@ use Prim.Native.Nat.{ℕ}
 use mathlib.Core.Path.{_≡_, refl, subst}
 use mathlib.Core.List.{List, _++_}
 use lib.ListN.{length, drop}
-use Rattle.dhcp.specs.Rfc2131.{reply}
+use Rattle.dhcp_reply.specs.Reply.{reply}
 use Rattle.options.specs.Rfc2132.{walk, walkFrom}
 use Rattle.record.specs.Answer.{Meets, Outcome, paper}
 use Rattle.record.specs.Network.{network}
@@ -13,19 +13,19 @@ use Rattle.wire.specs.Rfc768.{datagram}
 use Rattle.wire.specs.Rfc791.{header, headerWith}
 use Rattle.frames.specs.Frames.{ipFrame}
 use Rattle.wire.specs.Rfc792.{echo, echoWith}
-use Rattle.rules.specs.Rfc826.{replyTo}
-use Rattle.rules.specs.Rfc2131.{dhcpFrame}
+use Rattle.arp_reply.specs.Reply.{replyTo}
+use Rattle.dhcp_reply.specs.Reply.{dhcpFrameTo}
 use Rattle.rules.specs.Rules.{decision, arpDecision, ipDecision, icmpDecision, udpDecision, dhcpDecision, outcomeOf, outcome}
 use Rattle.record.specs.Answer.{framing}
 use Rattle.sums.specs.Rfc1071.{words, sum, total, fold, checksum}
 use Rattle.laws.specs.Marked.{Holds, All, call, marked, unmarked, longPing}
 
 pub marked-hold : All marked
-unfolding checksum total words sum fold header headerWith ipFrame datagram walk walkFrom reply echo echoWith replyTo dhcpFrame decision arpDecision ipDecision icmpDecision udpDecision dhcpDecision framing outcomeOf outcome
+unfolding checksum total words sum fold header headerWith ipFrame datagram walk walkFrom reply echo echoWith replyTo dhcpFrameTo decision arpDecision ipDecision icmpDecision udpDecision dhcpDecision framing outcomeOf outcome
 marked-hold = (refl, (refl, (refl, (refl, (refl, (refl, (refl, (refl, (refl, (refl, (refl, (refl, tt))))))))))))
 
 pub unmarked-hold : All unmarked
-unfolding checksum total words sum fold header headerWith ipFrame datagram walk walkFrom reply echo echoWith replyTo dhcpFrame decision arpDecision ipDecision icmpDecision udpDecision dhcpDecision framing outcomeOf outcome
+unfolding checksum total words sum fold header headerWith ipFrame datagram walk walkFrom reply echo echoWith replyTo dhcpFrameTo decision arpDecision ipDecision icmpDecision udpDecision dhcpDecision framing outcomeOf outcome
 unmarked-hold = (refl, (refl, (refl, (refl, (refl, tt)))))
 
 pub long-ping : longPing

@@ -7,7 +7,7 @@ use native.Mathlib.Omega.{arith}
 use lib.ListN.{take}
 use Rattle.grammar.specs.Grammar.{Derivation, laid, Derives}
 use Rattle.grammar.specs.Report.{parts, refused, partsOf, Reads, icmpKind}
-use Rattle.reader.specs.Told.{told}
+use Rattle.reader.specs.Reported.{reportOf as told}
 use Rattle.reader.specs.declared.parts.Reading.{Reading}
 use Rattle.grammar.proofs.Unique.{arp-or-ipv4}
 use Rattle.sums.specs.Rfc1071.{words, sum, total, fold, SumsRight}

@@ -4,7 +4,7 @@ use mathlib.Core.Path.{_≡_, ap, sym, subst, _∙_}
 use mathlib.Core.List.{List, [], _∷_}
 use native.Mathlib.Omega.{arith}
 use lib.ListN.{length, take, drop}
-use Rattle.dhcp.proofs.ReadBack.{FourBytes}
+use Rattle.record.specs.Network.{FourBytes}
 use Rattle.wire.specs.Rfc791.{identification, sourceOf}
 use Rattle.wire.specs.Rfc894.{body, sourceMac, typeOf}
 use Rattle.record.specs.Answer.{paper, Meets}
@@ -16,7 +16,10 @@ use Rattle.rules.specs.Rules.{decision, outcome}
 use Rattle.rules.specs.declared.decision.Decision.{Decision}
 use Rattle.rules.specs.declared.decision.Decision.the-variants.{Drop, DropNoting, ArpReply, EchoReply, DhcpReply, Dns, Relay, Tcp, TooLong, CutType}
 use Rattle.rules.proofs.Says.{Says, says}
-use Rattle.slirp.proofs.ReadBack.{AnswersArp, arp-reads-back, AnswersEcho, echo-reads-back, FrameOf, echo-frame-reads-back, AnswersDhcp, dhcp-reads-back}
+use Rattle.arp_reply.proofs.ReadBack.{AnswersArp, arp-reads-back}
+use Rattle.echo_reply.proofs.ReadBack.{AnswersEcho, echo-reads-back, echo-frame-reads-back}
+use Rattle.frames.proofs.ReadBack.{FrameOf}
+use Rattle.dhcp_reply.proofs.FrameReadBack.{AnswersDhcp, dhcp-reads-back}
 use Rattle.laws.specs.Table.{built, replyAtAmpleRoom}
 use Rattle.laws.proofs.Demand1.{on-one}
 

@@ -1,11 +1,9 @@
 -- A host of many guests: "The host keeps one record for each guest and every call updates it." Guests are told apart by a number.
 use Prim.Native.Nat.{ℕ}
-use mathlib.Core.Path.{_≡_}
-use mathlib.Core.List.{List, [], _∷_}
-use lib.Dec.{eqb}
+use mathlib.Core.List.{List, []}
 use lib.ListN.{length, take}
+use Rattle.base.specs.Runs.{Runs, leaves, Serves, leavesAll}
 use Rattle.record.specs.Answer.{Meets}
-use mathlib.Core.Bool.{cond}
 use Rattle.record.specs.declared.answer.Answer.{Answer}
 use Rattle.record.specs.declared.guest.Guest.{Guest}
 use Rattle.record.specs.declared.answer.Verdict.{Verdict}
@@ -25,37 +23,36 @@ pub record Call : Type 0 where
 abbrev pub Answered : Network → Guest → Call → Type 0
 Answered net guest call = Meets (outcome net guest (call .frame) (length (call .before))) (call .before) (call .after) (call .answer)
 
--- the records of all guests
-abbrev pub Host : Type 0
-Host = ℕ → Guest
+-- the record that it leaves
+abbrev pub leftBy : Call → Guest
+leftBy call = call .answer .guest
 
--- the host once the guest `who` has this record
-abbrev pub storing : Host → (who : ℕ) → Guest → Host
-storing host who guest other = cond (eqb who other) guest (host other)
+-- whose it is
+abbrev pub whose : Call → ℕ
+whose call = call .who
 
 -- Calls one after the other, of any guests in any order: each is answered from its guest's record, and the record answered is kept.
-abbrev pub Serves : Network → Host → List Call → Host → Type 0
-Serves net host [] host′ = (guest : ℕ) → host′ guest ≡ host guest
-Serves net host (call ∷ rest) host′ = Answered net (host (call .who)) call × Serves net (storing host (call .who) (call .answer .guest)) rest host′
+abbrev pub Served : Network → (host : ℕ → Guest) → List Call → Type 0
+Served net host calls = Serves (Answered net) leftBy whose host calls
 
--- The same where there is one guest alone.
-abbrev pub ServesAlone : Network → Guest → List Call → Guest → Type 0
-ServesAlone net guest [] guest′ = guest′ ≡ guest
-ServesAlone net guest (call ∷ rest) guest′ = Answered net guest call × ServesAlone net (call .answer .guest) rest guest′
+-- the records that they leave
+abbrev pub recordsAfter : Network → (host : ℕ → Guest) → List Call → (ℕ → Guest)
+recordsAfter net host calls = leavesAll (Answered net) leftBy whose host calls
 
--- the calls of one guest
-abbrev pub callsOf : (who : ℕ) → List Call → List Call
-callsOf who [] = []
-callsOf who (call ∷ rest) = cond (eqb (call .who) who) (call ∷ callsOf who rest) (callsOf who rest)
+-- the same where there is one guest alone
+abbrev pub ServedAlone : Network → Guest → List Call → Type 0
+ServedAlone net guest calls = Runs (Answered net) leftBy guest calls
+
+abbrev pub recordAfter : Network → Guest → List Call → Guest
+recordAfter net guest calls = leaves (Answered net) leftBy guest calls
 
 -- what a guest hands in: its frame; and the room that the host gives it
 pub record Asked : Type 0 where
   pub frame : List ℕ
   pub room : ℕ
 
-abbrev pub asks : List Call → List Asked
-asks [] = []
-asks (call ∷ rest) = record { frame = call .frame; room = length (call .before) } ∷ asks rest
+abbrev pub asked : Call → Asked
+asked call = record { frame = call .frame; room = length (call .before) }
 
 -- the bytes that go to the guest: on a reply the first n of the buffer
 abbrev pub sent : Verdict → (buffer : List ℕ) → List ℕ
@@ -73,6 +70,5 @@ pub record Got : Type 0 where
   pub answer : Answer
   pub reply : List ℕ
 
-abbrev pub gets : List Call → List Got
-gets [] = []
-gets (call ∷ rest) = record { answer = call .answer; reply = sent (call .answer .verdict) (call .after) } ∷ gets rest
+abbrev pub got : Call → Got
+got call = record { answer = call .answer; reply = sent (call .answer .verdict) (call .after) }

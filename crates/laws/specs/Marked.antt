@@ -5,7 +5,7 @@ use mathlib.Core.Path.{_≡_}
 use mathlib.Core.List.{List, [], _∷_, _++_}
 use lib.ListN.{length, take, replicate}
 use Rattle.base.specs.Bytes.{be16}
-use Rattle.record.specs.Guest.{fresh}
+use Rattle.record.specs.Guest.{fresh, known}
 use Rattle.record.specs.Network.{network}
 use Rattle.record.specs.declared.guest.Guest.{Guest}
 use Rattle.rules.specs.Rules.{outcome}
@@ -31,7 +31,7 @@ abbrev pub mac : List ℕ
 mac = 0x52 ∷ 0x54 ∷ 0x00 ∷ 0x12 ∷ 0x34 ∷ 0x56 ∷ []
 
 abbrev pub with : (id xid : ℕ) → Guest
-with id xid = record { mac = mac; id = id; xid = xid }
+with id xid = known mac id xid
 
 -- A1: an ARP request from that MAC and 10.0.2.15 for 10.0.2.2, and the reply
 abbrev pub arpRequest : List ℕ

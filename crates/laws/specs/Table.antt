@@ -10,9 +10,9 @@ use Rattle.record.specs.declared.guest.Guest.{Guest}
 use Rattle.record.specs.declared.answer.Verdict.{Verdict}
 use Rattle.record.specs.declared.answer.Verdict.the-variants.{Drop, Reply, Dns, Relay, Tcp, NoRoom, TooLong, CutType}
 use Rattle.record.specs.declared.network.Network.{Network}
-use Rattle.rules.specs.Rfc792.{echoFrame}
-use Rattle.rules.specs.Rfc826.{arpReply}
-use Rattle.rules.specs.Rfc2131.{dhcpFrame}
+use Rattle.echo_reply.specs.Reply.{echoFrame}
+use Rattle.arp_reply.specs.Reply.{arpReply}
+use Rattle.dhcp_reply.specs.Reply.{dhcpFrame}
 use Rattle.rules.specs.Rules.{datagramData, decision}
 use Rattle.record.specs.Guest.{noting}
 use Rattle.rules.specs.Seen.{Message, CutMessage, Query, Outbound, TooLongPing, Segment}

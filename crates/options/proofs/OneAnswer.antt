@@ -2,7 +2,7 @@
 use Prim.Native.Nat.{ℕ}
 use mathlib.Core.Path.{_≡_, refl, ap, sym, _∙_}
 use mathlib.Core.List.{List}
-use Rattle.options.specs.Found.{told}
+use Rattle.options.specs.Found.{walkedAs}
 use Rattle.options.specs.Rfc2132.{Walked, typed, cut, walk}
 use Rattle.options.specs.declared.Found.{Found}
 use Rattle.options.specs.declared.Found.the-variants.{MessageType, CutAt}
@@ -12,14 +12,14 @@ foundOf : Walked → Found
 foundOf (typed type) = MessageType type
 foundOf (cut place) = CutAt place
 
-found-back : (f : Found) → foundOf (told f) ≡ f
+found-back : (f : Found) → foundOf (walkedAs f) ≡ f
 unfolding foundOf
 found-back (MessageType type) = refl
 found-back (CutAt place) = refl
 
 -- different answers mean different things
-pub told-one-to-one : (f g : Found) → told f ≡ told g → f ≡ g
-told-one-to-one f g e = sym (found-back f) ∙ ap foundOf e ∙ found-back g
+pub walked-one-to-one : (f g : Found) → walkedAs f ≡ walkedAs g → f ≡ g
+walked-one-to-one f g e = sym (found-back f) ∙ ap foundOf e ∙ found-back g
 
-pub message-type-answers-once : (message : List ℕ) (f g : Found) → told f ≡ walk message → told g ≡ walk message → f ≡ g
-message-type-answers-once message f g p q = told-one-to-one f g (p ∙ sym q)
+pub message-type-answers-once : (message : List ℕ) (f g : Found) → walkedAs f ≡ walk message → walkedAs g ≡ walk message → f ≡ g
+message-type-answers-once message f g p q = walked-one-to-one f g (p ∙ sym q)

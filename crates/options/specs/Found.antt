@@ -3,6 +3,6 @@ use Rattle.options.specs.Rfc2132.{Walked, typed, cut}
 use Rattle.options.specs.declared.Found.{Found}
 use Rattle.options.specs.declared.Found.the-variants.{MessageType, CutAt}
 
-abbrev pub told : Found → Walked
-told (MessageType type) = typed type
-told (CutAt place) = cut place
+abbrev pub walkedAs : Found → Walked
+walkedAs (MessageType type) = typed type
+walkedAs (CutAt place) = cut place

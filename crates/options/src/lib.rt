@@ -2,7 +2,7 @@
 // public function relies on checks by its caller.
 ghost use mathlib.Core.Path.{_≡_};
 ghost use Prim.Native.Nat.{_<_};
-ghost use Rattle.options.specs.Found.{told};
+ghost use Rattle.options.specs.Found.{walkedAs};
 ghost use Rattle.options.specs.Rfc2132.{walk};
 use wire::dhcp::END;
 use wire::dhcp::FIXED;
@@ -19,7 +19,7 @@ pub enum Found {
 
 // The type of the message `data`, which may end anywhere.
 pub fn message_type(data: &[u8]) -> Found
-    ensures { λ r. ⌜ told r ≡ walk (now («data» .entry)) ⌝ }
+    ensures { λ r. ⌜ walkedAs r ≡ walk (now («data» .entry)) ⌝ }
 {
     let mut at = FIXED;
     'scan: loop {

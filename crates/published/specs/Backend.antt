@@ -5,10 +5,10 @@ use mathlib.Core.List.{List, [], _∷_, _++_}
 use Rattle.published.specs.Rust.{Slice}
 
 -- A call of what is outside: `handle_dns` and `handle_tcp` are not in the text, `relay_datagram` goes to a host socket. With all that it is handed.
-pub data Call : Type 0 where
-  «handle_dns» : («data» : Slice) («guest_mac» «src_ip» : List ℕ) («src_port» : ℕ) → Call
-  «relay_datagram» : («guest_mac» «src_ip» : List ℕ) («src_port» : ℕ) («dst_ip» : List ℕ) («dst_port» : ℕ) («data» : Slice) → Call
-  «handle_tcp» : (frame : Slice) → Call
+pub data CallOut : Type 0 where
+  «handle_dns» : («data» : Slice) («guest_mac» «src_ip» : List ℕ) («src_port» : ℕ) → CallOut
+  «relay_datagram» : («guest_mac» «src_ip» : List ℕ) («src_port» : ℕ) («dst_ip» : List ℕ) («dst_port» : ℕ) («data» : Slice) → CallOut
+  «handle_tcp» : (frame : Slice) → CallOut
 
 pub record SlirpBackend : Type 0 where
   pub «guest_mac» : List ℕ
@@ -17,7 +17,7 @@ pub record SlirpBackend : Type 0 where
   -- `static IP_ID_COUNTER` of `frames.rs`
   pub counter : ℕ
   -- the calls of what is outside, in their order
-  pub calls : List Call
+  pub calls : List CallOut
 
 -- `self.dhcp_xid = xid`
 abbrev pub withXid : (xid : ℕ) → SlirpBackend → SlirpBackend
@@ -36,7 +36,7 @@ pushed frame counter self =
     }
 
 -- a call of what is outside
-abbrev pub calling : Call → SlirpBackend → SlirpBackend
+abbrev pub calling : CallOut → SlirpBackend → SlirpBackend
 calling call self =
     record {
       «guest_mac» = self .«guest_mac»;

@@ -6,7 +6,7 @@ use mathlib.Core.List.{List, [], _∷_, _++_}
 use lib.ListN.{replicate}
 use Rattle.published.specs.Rust.{Run, gives, panics, cuts, Slice, whole}
 use Rattle.published.specs.Frames.{Counted, Endpoints, checksum, «make_ip_frame», «make_udp_payload», «make_tcp_frame»}
-use Rattle.published.specs.Backend.{Call, «handle_dns», «relay_datagram», «handle_tcp», SlirpBackend}
+use Rattle.published.specs.Backend.{CallOut, «handle_dns», «relay_datagram», «handle_tcp», SlirpBackend}
 use Rattle.published.specs.Dhcp.{«message_type», «build_reply»}
 use Rattle.published.specs.Slirp.{new, send}
 
@@ -45,7 +45,7 @@ abbrev pub sent : (frame : List ℕ) → SlirpBackend → SlirpBackend
 sent frame self =
     record { «guest_mac» = self .«guest_mac»; «rx_pending» = frame ∷ []; «dhcp_xid» = self .«dhcp_xid»; counter = self .counter; calls = [] }
 
-abbrev pub called : Call → SlirpBackend → SlirpBackend
+abbrev pub called : CallOut → SlirpBackend → SlirpBackend
 called call self =
     record { «guest_mac» = self .«guest_mac»; «rx_pending» = []; «dhcp_xid» = self .«dhcp_xid»; counter = self .counter; calls = call ∷ [] }
 

@@ -1,2 +1,2 @@
-pub mod Told
-pub mod Helpers
+pub mod Reported
+pub mod helpers

@@ -3,56 +3,50 @@
 ghost use mathlib.Core.Path.{_≡_};
 ghost use Rattle.grammar.specs.Grammar.{body, protocol};
 ghost use Rattle.grammar.specs.Report.{Reads};
-ghost use Rattle.reader.specs.Helpers.{Framed, Opened};
-ghost use Rattle.reader.specs.Told.{told};
+ghost use Rattle.reader.specs.Reported.{reportOf};
+ghost use Rattle.reader.specs.helpers.Opened.{Framed, Opened};
 
-mod arp;
-mod ipv4;
 mod parts;
-mod payloads;
 
+use dhcp_strict::read_message;
+use packets_strict::carries_dhcp;
+use packets_strict::is_arp;
+use packets_strict::is_icmp;
+use packets_strict::is_ipv4;
+use packets_strict::is_tcp;
+use packets_strict::is_udp;
 pub use parts::Layer;
 pub use parts::Reading;
 use parts::laid;
-use wire::bytes::byte_at;
-use wire::bytes::u16be;
-
-const ETHERNET_HEADER: usize = 14;
-
-const ETHERTYPE: usize = 12;
-
-const ETHERTYPE_ARP: u16 = 0x0806;
-
-const ETHERTYPE_IP: u16 = 0x0800;
-
-const ICMP: u8 = 1;
-
-const TCP: u8 = 6;
-
-const UDP: u8 = 17;
+use wire::dhcp;
+use wire::ethernet;
+use wire::icmp;
+use wire::ipv4;
+use wire::tcp;
+use wire::udp;
 
 // The parts of `frame`, or that it is outside the grammar.
 pub fn read(frame: &[u8]) -> Reading
-    ensures { λ r. ⌜ Reads (now (frame .entry)) (told r) ⌝ }
+    ensures { λ r. ⌜ Reads (now (frame .entry)) (reportOf r) ⌝ }
 {
     let stop = frame.len();
-    if stop < ETHERNET_HEADER {
+    if stop < ethernet::HEADER {
         return Reading::Outside;
     }
-    let kind = u16be(frame, ETHERTYPE);
-    let packet = &frame[ETHERNET_HEADER..];
-    if kind == ETHERTYPE_ARP {
-        if !arp::is_arp(packet) {
+    let kind = ethernet::eth_type(frame);
+    let packet = &frame[ethernet::HEADER..];
+    if kind == ethernet::ARP {
+        if !is_arp(packet) {
             return Reading::Outside;
         }
         return Reading::Arp {
-            ethernet: laid(0, ETHERNET_HEADER, stop),
+            ethernet: laid(0, ethernet::HEADER, stop),
         };
     }
-    if kind != ETHERTYPE_IP {
+    if kind != ethernet::IPV4 {
         return Reading::Outside;
     }
-    if !ipv4::is_ipv4(packet) {
+    if !is_ipv4(packet) {
         return Reading::Outside;
     }
     read_payload(frame)
@@ -61,37 +55,38 @@ pub fn read(frame: &[u8]) -> Reading
 // The same of a frame whose IPv4 header is right.
 fn read_payload(frame: &[u8]) -> Reading
     requires { ⌜ Framed (now frame) ⌝ }
-    ensures { λ r. ⌜ Reads (now (frame .entry)) (told r) ⌝ }
+    ensures { λ r. ⌜ Reads (now (frame .entry)) (reportOf r) ⌝ }
 {
     let stop = frame.len();
-    let packet = &frame[ETHERNET_HEADER..];
-    let start = ETHERNET_HEADER + ipv4::header_length(packet);
-    let ethernet = laid(0, ETHERNET_HEADER, stop);
-    let ip = laid(ETHERNET_HEADER, start, stop);
-    let protocol = byte_at(packet, ipv4::PROTOCOL);
-    if protocol == ICMP {
-        if !payloads::is_icmp(packet) {
+    let packet = &frame[ethernet::HEADER..];
+    let start = ethernet::HEADER + ipv4::header_length(frame, ethernet::HEADER);
+    let ethernet = laid(0, ethernet::HEADER, stop);
+    let ip = laid(ethernet::HEADER, start, stop);
+    let protocol = ipv4::ip_proto(frame);
+    if protocol == ipv4::ICMP {
+        if !is_icmp(packet) {
             return Reading::Outside;
         }
-        let message = laid(start, start + payloads::ICMP_HEADER, stop);
+        let message = laid(start, start + icmp::HEADER, stop);
         return Reading::Icmp {
             ethernet,
             ip,
             message,
         };
     }
-    if protocol == TCP {
-        if !payloads::is_tcp(packet) {
+    if protocol == ipv4::TCP {
+        if !is_tcp(packet) {
             return Reading::Outside;
         }
-        let segment = laid(start, start + payloads::tcp_header_length(packet), stop);
+        let header = tcp::header_length(&frame[start..]);
+        let segment = laid(start, start + header, stop);
         return Reading::Tcp {
             ethernet,
             ip,
             segment,
         };
     }
-    if protocol == UDP {
+    if protocol == ipv4::UDP {
         return read_datagram(frame, start, ethernet, ip);
     }
     Reading::OtherIpv4 { ethernet, ip }
@@ -102,27 +97,27 @@ fn read_datagram(frame: &[u8], start: usize, ethernet: Layer, ip: Layer) -> Read
     requires { ⌜ Framed (now frame) ⌝ }
     requires { ⌜ protocol (body (now frame)) ≡ 17 ⌝ }
     requires { ⌜ Opened (now frame) start ethernet ip ⌝ }
-    ensures { λ r. ⌜ Reads (now (frame .entry)) (told r) ⌝ }
+    ensures { λ r. ⌜ Reads (now (frame .entry)) (reportOf r) ⌝ }
 {
     let stop = frame.len();
-    let packet = &frame[ETHERNET_HEADER..];
-    if !payloads::is_udp(packet) {
+    let packet = &frame[ethernet::HEADER..];
+    if !is_udp(packet) {
         return Reading::Outside;
     }
-    let data = start + payloads::UDP_HEADER;
+    let data = start + udp::HEADER;
     let datagram = laid(start, data, stop);
-    if !payloads::carries_dhcp(packet) {
+    if !carries_dhcp(packet) {
         return Reading::Udp {
             ethernet,
             ip,
             datagram,
         };
     }
-    let message_type = messages::read_message(frame, data);
+    let message_type = read_message(frame, data);
     if message_type == 0 {
         return Reading::Outside;
     }
-    let message = laid(data, data + messages::HEADER, stop);
+    let message = laid(data, data + dhcp::FIXED, stop);
     Reading::Dhcp {
         ethernet,
         ip,

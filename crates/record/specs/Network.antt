@@ -1,7 +1,8 @@
 -- The addresses of document 01 ("The record"), and the broadcast address of a network.
 use Prim.Native.Nat.{ℕ, _-_}
+use mathlib.Core.Path.{_≡_}
 use mathlib.Core.List.{List, [], _∷_}
-use lib.ListN.{getD}
+use lib.ListN.{length, getD}
 use lib.Bits.{bitOr}
 use Rattle.record.specs.declared.network.Network.{Network}
 
@@ -31,3 +32,9 @@ broadcastOf net =
     ∷ hostBitsSet (getD (net .guest) 2 0) (getD (net .mask) 2 0)
     ∷ hostBitsSet (getD (net .guest) 3 0) (getD (net .mask) 3 0)
     ∷ []
+
+-- the lengths that a network's arrays have by their types
+pub record FourBytes (net : Network) : Type 0 where
+  pub guest : length (net .guest) ≡ 4
+  pub gateway : length (net .gateway) ≡ 4
+  pub mask : length (net .mask) ≡ 4

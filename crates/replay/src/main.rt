@@ -1,29 +1,30 @@
-// Replays stored vectors: calls of `sums`, `frames`, `tcp`, `dhcp` and `slirp` with the answers that
-// others gave, one to a line of standard input (oracle/README.md has the form). It prints how many of
-// each kind ran and agreed.
-mod answers;
-mod cases;
-mod frame;
-mod gateway;
-mod messages;
-mod pieces;
-mod tally;
+// Replays stored vectors: calls of `sums`, `frames`, `tcp`, `options`, `dhcp` and `slirp` with the
+// answers that others gave, one to a line of standard input (oracle/README.md has the form). It prints
+// how many of each kind ran and agreed.
+mod rows;
 
 use record::Guest;
+use vectors::SPOILED;
 use vectors::Tally;
 use wire::bytes::byte_at;
 
 const STDIN: i32 = 0;
 
+const STDOUT: i32 = 1;
+
+// The largest input, with a byte to spare.
+const TEXT_ROOM: usize = 1179648;
+
 fn main() {
-    let mut text = answers::longest_input();
-    let n = io::read_full(STDIN, &mut text);
+    let mut space = vectors::large_space();
+    let text = vectors::front(&mut space, TEXT_ROOM);
+    let n = io::read_full(STDIN, text);
     if n == text.len() {
-        io::write_all(1, b"input over 1179647\n");
+        io::write_all(STDOUT, b"input over 1179647\n");
         return;
     }
     let mut line = io::buffer();
-    tally::print(replay(&text[..n], &mut line));
+    rows::print(replayed(vectors::part(text, 0, n), &mut line));
 }
 
 // The count so far, and the record that the last gateway call left.
@@ -32,7 +33,7 @@ struct Run {
     guest: Guest,
 }
 
-fn replay(text: &[u8], line: &mut [u8]) -> Tally {
+fn replayed(text: &[u8], line: &mut [u8]) -> Tally {
     let mut run = Run {
         tally: Tally::new(),
         guest: Guest::new([0, 0, 0, 0, 0, 0]),
@@ -41,8 +42,7 @@ fn replay(text: &[u8], line: &mut [u8]) -> Tally {
     while at < text.len() {
         let read = vectors::decode(text, at, line);
         at = read.next;
-        let len = read.len;
-        run = judged(run, read.whole, &line[..len]);
+        run = judged(run, read.whole, vectors::part(line, 0, read.len));
     }
     let tally = run.tally;
     tally
@@ -51,16 +51,41 @@ fn replay(text: &[u8], line: &mut [u8]) -> Tally {
 // A blank line or a comment is no case.
 fn judged(run: Run, whole: bool, line: &[u8]) -> Run {
     if !whole {
-        return counted(run, tally::UNREAD_ROW, false);
+        return counted(run, rows::UNREAD, false);
     }
     if line.len() == 0 {
         return run;
     }
-    if gateway::is_call(line) {
+    if gateway_cases::is_call(byte_at(line, 0) % SPOILED) {
         return call_judged(run, line);
     }
-    let case = cases::judge(line);
-    counted(run, case.row, case.agrees)
+    let case = builder_cases::judge(line);
+    if case.kind == 0 {
+        return counted(run, rows::UNREAD, false);
+    }
+    if SPOILED <= byte_at(line, 0) {
+        return counted(run, rows::SPOILED, !case.agrees);
+    }
+    counted(run, case.kind as usize, case.agrees)
+}
+
+// A spoiled call leaves the record as it was.
+fn call_judged(run: Run, line: &[u8]) -> Run {
+    let last = run.guest;
+    let outcome = gateway_cases::called(line, last);
+    if SPOILED <= byte_at(line, 0) {
+        return counted(run, rows::SPOILED, !outcome.agrees);
+    }
+    let row = rows::of_verdict(outcome.named, outcome.verdict);
+    let once = counted(run, row, outcome.agrees);
+    let whose_row = rows::of_whose(outcome.named, outcome.whose);
+    let twice = counted(once, whose_row, outcome.agrees);
+    let tally = twice.tally;
+    let after = outcome.guest;
+    Run {
+        tally: tally,
+        guest: after,
+    }
 }
 
 fn counted(run: Run, row: usize, agrees: bool) -> Run {
@@ -69,22 +94,5 @@ fn counted(run: Run, row: usize, agrees: bool) -> Run {
     Run {
         tally: tally.counted(row, agrees),
         guest: guest,
-    }
-}
-
-// A spoiled call leaves the record as it was.
-fn call_judged(run: Run, line: &[u8]) -> Run {
-    let last = run.guest;
-    let outcome = gateway::called(line, last);
-    if cases::SPOILED <= byte_at(line, 0) {
-        return counted(run, tally::SPOILED_ROW, !outcome.agrees);
-    }
-    let once = counted(run, outcome.row, outcome.agrees);
-    let twice = counted(once, outcome.whose_row, outcome.agrees);
-    let tally = twice.tally;
-    let after = outcome.guest;
-    Run {
-        tally: tally,
-        guest: after,
     }
 }

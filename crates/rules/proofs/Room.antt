@@ -15,9 +15,9 @@ use Rattle.record.specs.Guest.{spent}
 use Rattle.record.specs.declared.guest.Guest.{Guest}
 use Rattle.record.specs.declared.network.Network.{Network}
 use Rattle.rules.proofs.Says.{Says, says}
-use Rattle.rules.specs.Rfc792.{echoFrame}
-use Rattle.rules.specs.Rfc826.{arpReply}
-use Rattle.rules.specs.Rfc2131.{dhcpFrame}
+use Rattle.echo_reply.specs.Reply.{echoFrame}
+use Rattle.arp_reply.specs.Reply.{arpReply}
+use Rattle.dhcp_reply.specs.Reply.{dhcpFrame}
 use Rattle.rules.specs.Room.{Ample, for-all, for-this}
 use Rattle.rules.specs.Rules.{decision, outcome, outcomeOf}
 use Rattle.record.specs.Answer.{framing}

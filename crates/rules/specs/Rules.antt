@@ -5,7 +5,7 @@ use mathlib.Core.Bool.{_&&_, not, cond}
 use mathlib.Core.List.{List, [], _∷_}
 use lib.Dec.{eqb, ltb}
 use lib.ListN.{length, drop}
-use Rattle.dhcp.specs.Rfc2131.{answering}
+use Rattle.dhcp_reply.specs.Reply.{answering}
 use Rattle.options.specs.Rfc2132.{Walked, typed, cut, walk}
 use Rattle.base.specs.Bytes.{part}
 use Rattle.wire.specs.Rfc768.{sourcePort, targetPort, lengthField}
@@ -14,13 +14,13 @@ use Rattle.wire.specs.Rfc792.{messageType}
 use Rattle.wire.specs.Rfc826 as Arp
 use Rattle.wire.specs.Rfc894.{body, typeOf}
 use Rattle.wire.specs.Rfc2131 as Dhcp
-use Rattle.record.specs.Answer.{Outcome, fitting}
-use Rattle.record.specs.Guest.{spent}
+use Rattle.record.specs.Answer.{Outcome, unwritten, framing}
+use Rattle.record.specs.Guest.{spent, noting}
 use Rattle.record.specs.declared.guest.Guest.{Guest}
 use Rattle.record.specs.declared.network.Network.{Network}
-use Rattle.rules.specs.Rfc792.{echoFrame}
-use Rattle.rules.specs.Rfc826.{arpReply}
-use Rattle.rules.specs.Rfc2131.{dhcpFrame}
+use Rattle.echo_reply.specs.Reply.{echoFrame}
+use Rattle.arp_reply.specs.Reply.{arpReply}
+use Rattle.dhcp_reply.specs.Reply.{dhcpFrame}
 use Rattle.rules.specs.Same.{same}
 use Rattle.rules.specs.declared.decision.Decision.{Decision}
 use Rattle.rules.specs.declared.decision.Decision.the-variants.{Drop, DropNoting, ArpReply, EchoReply, DhcpReply, Dns, Relay, Tcp, TooLong, CutType}

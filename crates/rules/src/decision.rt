@@ -6,19 +6,25 @@ ghost use lib.ListN.{length};
 ghost use lib.Dec.{eqb, ltb};
 ghost use Rattle.rules.specs.Rules.{decision, arpDecision, ipDecision, icmpDecision, udpDecision, dhcpDecision, typeDecision};
 ghost use Rattle.rules.specs.Same.{same as Same·same};
-ghost use Rattle.options.specs.Found.{told};
-use dhcp::reply_type;
+ghost use Rattle.options.specs.Found.{walkedAs};
+use dhcp_reply::reply_type;
 use options::Found;
 use options::message_type;
 use record::Network;
+use wire::arp;
 use wire::bytes::address_at;
 use wire::bytes::byte_at;
 use wire::bytes::u16be;
 use wire::bytes::u32be;
+use wire::dhcp;
+use wire::ethernet;
 use wire::ethernet::eth_type;
+use wire::icmp;
+use wire::ipv4;
 use wire::ipv4::ip_dst;
 use wire::ipv4::ip_hlen;
 use wire::ipv4::ip_proto;
+use wire::udp;
 
 // What is to be done with a frame. A start or a place is counted from the frame's first byte, but
 // for CutType's, which is counted from the DHCP data's.
@@ -37,71 +43,26 @@ pub enum Decision {
     CutType(usize),
 }
 
-const ETHERTYPE_ARP: u16 = 0x0806;
+// What has one length, and places in the frame.
+const IP_FRAME: usize = ethernet::HEADER + ipv4::HEADER;
 
-const ETHERTYPE_IP: u16 = 0x0800;
+const ARP_FRAME: usize = ethernet::HEADER + arp::PACKET;
 
-const IP_PROTO_ICMP: u8 = 1;
+const ARP_OPERATION: usize = ethernet::HEADER + arp::OPERATION;
 
-const IP_PROTO_TCP: u8 = 6;
-
-const IP_PROTO_UDP: u8 = 17;
-
-// Lengths of headers, and of what has one length.
-const ETHERNET_HEADER: usize = 14;
-
-const IP_FRAME: usize = 14 + 20;
-
-const ARP_FRAME: usize = 14 + 28;
-
-const ICMP_HEADER: usize = 8;
-
-const UDP_HEADER: usize = 8;
-
-const DHCP_FIXED: usize = 240;
-
-// The longest payload of an IPv4 packet whose header has 20 bytes.
-const PAYLOAD_LIMIT: usize = 65515;
-
-// Fields.
-const ARP_OPERATION: usize = 14 + 6;
-
-const ARP_TARGET: usize = 14 + 24;
-
-const UDP_DESTINATION: usize = 2;
-
-const UDP_LENGTH: usize = 4;
-
-const DHCP_XID: usize = 4;
-
-const DHCP_COOKIE: usize = 236;
-
-// Values.
-const ARP_REQUEST: u16 = 1;
-
-const ECHO_REQUEST: u8 = 8;
-
-const BOOT_REQUEST: u8 = 1;
-
-const MAGIC_COOKIE: u32 = 0x63825363;
-
-const DHCP_CLIENT_PORT: u16 = 68;
-
-const DHCP_SERVER_PORT: u16 = 67;
-
-const DNS_PORT: u16 = 53;
+const ARP_TARGET: usize = ethernet::HEADER + arp::TARGET_IP;
 
 pub fn decide(net: Network, frame: &[u8]) -> Decision
     ensures { λ r. ⌜ r ≡ decision net (now (frame .entry)) ⌝ }
 {
-    if frame.len() < ETHERNET_HEADER {
+    if frame.len() < ethernet::HEADER {
         return Decision::Drop;
     }
     let kind = eth_type(frame);
-    if kind == ETHERTYPE_ARP {
+    if kind == ethernet::ARP {
         return decide_arp(net, frame);
     }
-    if kind == ETHERTYPE_IP {
+    if kind == ethernet::IPV4 {
         return decide_ip(net, frame);
     }
     Decision::Drop
@@ -113,7 +74,7 @@ fn decide_arp(net: Network, frame: &[u8]) -> Decision
     if frame.len() < ARP_FRAME {
         return Decision::Drop;
     }
-    if u16be(frame, ARP_OPERATION) != ARP_REQUEST {
+    if u16be(frame, ARP_OPERATION) != arp::REQUEST {
         return Decision::Drop;
     }
     let gateway = net.gateway;
@@ -130,13 +91,13 @@ fn decide_ip(net: Network, frame: &[u8]) -> Decision
         return Decision::Drop;
     }
     let proto = ip_proto(frame);
-    if proto == IP_PROTO_ICMP {
+    if proto == ipv4::ICMP {
         return decide_icmp(net, frame);
     }
-    if proto == IP_PROTO_TCP {
+    if proto == ipv4::TCP {
         return Decision::Tcp(frame.len());
     }
-    if proto == IP_PROTO_UDP {
+    if proto == ipv4::UDP {
         return decide_udp(net, frame);
     }
     Decision::Drop
@@ -149,18 +110,18 @@ fn decide_icmp(net: Network, frame: &[u8]) -> Decision
     if !same(ip_dst(frame), gateway) {
         return Decision::Drop;
     }
-    let start = ETHERNET_HEADER + ip_hlen(frame);
+    let start = ethernet::HEADER + ip_hlen(frame);
     if frame.len() < start {
         return Decision::Drop;
     }
     let len = payload_length(frame, start);
-    if len < ICMP_HEADER {
+    if len < icmp::HEADER {
         return Decision::Drop;
     }
-    if byte_at(frame, start) != ECHO_REQUEST {
+    if byte_at(frame, start) != icmp::ECHO_REQUEST {
         return Decision::Drop;
     }
-    if PAYLOAD_LIMIT < len {
+    if ipv4::PAYLOAD_LIMIT < len {
         return Decision::TooLong(len);
     }
     Decision::EchoReply { start }
@@ -171,21 +132,21 @@ fn decide_udp(net: Network, frame: &[u8]) -> Decision
 {
     let gateway = net.gateway;
     let target = ip_dst(frame);
-    let header = ETHERNET_HEADER + ip_hlen(frame);
+    let header = ethernet::HEADER + ip_hlen(frame);
     if frame.len() < header {
         return Decision::Drop;
     }
     let size = payload_length(frame, header);
-    if size < UDP_HEADER {
+    if size < udp::HEADER {
         return Decision::Drop;
     }
-    let stated = u16be(frame, header + UDP_LENGTH) as usize;
-    if stated < UDP_HEADER {
+    let stated = u16be(frame, header + udp::LENGTH) as usize;
+    if stated < udp::HEADER {
         return Decision::Drop;
     }
-    let start = header + UDP_HEADER;
-    let len = smaller(stated - UDP_HEADER, size - UDP_HEADER);
-    let destination = u16be(frame, header + UDP_DESTINATION);
+    let start = header + udp::HEADER;
+    let len = smaller(stated - udp::HEADER, size - udp::HEADER);
+    let destination = u16be(frame, header + udp::TARGET);
     if is_dhcp(u16be(frame, header), destination) {
         return decide_dhcp(&frame[start..start + len]);
     }
@@ -210,21 +171,21 @@ pub fn payload_length(frame: &[u8], start: usize) -> usize
 fn decide_dhcp(message: &[u8]) -> Decision
     ensures { λ r. ⌜ r ≡ dhcpDecision (now (message .entry)) ⌝ }
 {
-    if message.len() < DHCP_FIXED {
+    if message.len() < dhcp::FIXED {
         return Decision::Drop;
     }
-    if byte_at(message, 0) != BOOT_REQUEST {
+    if byte_at(message, 0) != dhcp::BOOT_REQUEST {
         return Decision::Drop;
     }
-    let xid = u32be(message, DHCP_XID);
-    if u32be(message, DHCP_COOKIE) != MAGIC_COOKIE {
+    let xid = u32be(message, dhcp::XID);
+    if u32be(message, dhcp::COOKIE) != dhcp::MAGIC_COOKIE {
         return Decision::DropNoting(xid);
     }
     decide_type(xid, message_type(message))
 }
 
 fn decide_type(xid: u32, found: Found) -> Decision
-    ensures { λ r. ⌜ r ≡ typeDecision xid (told found) ⌝ }
+    ensures { λ r. ⌜ r ≡ typeDecision xid (walkedAs found) ⌝ }
 {
     match found {
         Found::MessageType(received) => {
@@ -251,7 +212,7 @@ fn smaller(a: usize, b: usize) -> usize
 fn is_dhcp(source: u16, destination: u16) -> bool
     ensures { λ r. ⌜ r ≡ (eqb source 68 && eqb destination 67) ⌝ }
 {
-    (source == DHCP_CLIENT_PORT) & (destination == DHCP_SERVER_PORT)
+    (source == udp::DHCP_CLIENT) & (destination == udp::DHCP_SERVER)
 }
 
 fn is_dns(gateway: [u8; 4], target: [u8; 4], destination: u16) -> bool
@@ -260,7 +221,7 @@ fn is_dns(gateway: [u8; 4], target: [u8; 4], destination: u16) -> bool
     if !same(target, gateway) {
         return false;
     }
-    destination == DNS_PORT
+    destination == udp::DNS
 }
 
 fn same(a: [u8; 4], b: [u8; 4]) -> bool

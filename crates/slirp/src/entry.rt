@@ -3,11 +3,9 @@ ghost use lib.ListN.{length};
 ghost use Rattle.record.specs.Answer.{Meets};
 ghost use Rattle.record.specs.Network.{network};
 ghost use Rattle.rules.specs.Rules.{outcome};
-use crate::answers::answer;
-use crate::answers::noted;
-use crate::arp::handle_arp;
-use crate::icmp::handle_icmp;
-use crate::lease::handle_dhcp;
+use crate::replies::handle_arp;
+use crate::replies::handle_dhcp;
+use crate::replies::handle_icmp;
 use record::Answer;
 use record::Guest;
 use record::Network;
@@ -31,15 +29,15 @@ pub fn handle_on(net: Network, guest: Guest, frame: &[u8], reply: &mut [u8]) -> 
         (now (reply .entry)) (now (reply .exit)) r ⌝ }
 {
     match decide(net, frame) {
-        Decision::Drop => answer(guest, Verdict::Drop),
-        Decision::DropNoting(xid) => answer(noted(guest, xid), Verdict::Drop),
+        Decision::Drop => guest.answer(Verdict::Drop),
+        Decision::DropNoting(xid) => guest.note(xid).answer(Verdict::Drop),
         Decision::ArpReply => handle_arp(net, guest, frame, reply),
         Decision::EchoReply { start } => handle_icmp(net, guest, frame, start, reply),
         Decision::DhcpReply { xid, kind } => handle_dhcp(net, guest, frame, xid, kind, reply),
-        Decision::Dns { start, len } => answer(guest, Verdict::Dns { start, len }),
-        Decision::Relay { start, len } => answer(guest, Verdict::Relay { start, len }),
-        Decision::Tcp(len) => answer(guest, Verdict::Tcp(len)),
-        Decision::TooLong(len) => answer(guest, Verdict::TooLong(len)),
-        Decision::CutType(place) => answer(guest, Verdict::CutType(place)),
+        Decision::Dns { start, len } => guest.answer(Verdict::Dns { start, len }),
+        Decision::Relay { start, len } => guest.answer(Verdict::Relay { start, len }),
+        Decision::Tcp(len) => guest.answer(Verdict::Tcp(len)),
+        Decision::TooLong(len) => guest.answer(Verdict::TooLong(len)),
+        Decision::CutType(place) => guest.answer(Verdict::CutType(place)),
     }
 }

@@ -1,10 +1,7 @@
 // One call for one guest frame: what `rules` decides is built here, or handed on. Frames of any length,
 // buffers of any size, any record; nothing relies on checks by its caller.
-mod answers;
-mod arp;
 mod entry;
-mod icmp;
-mod lease;
+mod replies;
 
 pub use entry::handle;
 pub use entry::handle_on;

@@ -3,7 +3,7 @@ use Prim.Native.Nat.{ℕ, _+_, _-_, _≤_, _<_, min}
 use mathlib.Core.Path.{_≡_, refl, sym, _∙_}
 use mathlib.Core.Bool.{true}
 use mathlib.Core.List.{List}
-use native.Mathlib.Nat.{min-eq-right, min-le-right, le-min}
+use native.Mathlib.Nat.{min-eq-right, min-le-left, min-le-right, le-min}
 use native.Mathlib.Omega.{arith}
 use lib.ListN.{length, take, drop, drop-of-length-le}
 use lib.Seq.{take-length, take-take, take-add, drop-at, length-take-le}
@@ -20,7 +20,7 @@ past-end text at room line h =
       bytes = simp (drop-of-length-le text h);
       fits = omega arith;
       within = omega arith;
-      moves = λ m. omega arith;
+      moves = min-le-right (at + 1) (length text);
     }
 
 module _ (text : List ℕ) (at : ℕ) (h : at < length text) where
@@ -60,5 +60,5 @@ module _ (text : List ℕ) (at : ℕ) (h : at < length text) where
           bytes = rw signs at (r .bytes);
           fits = r .fits;
           within = omega (arith, min-le-right (end + 1) (length text));
-          moves = λ m. omega (arith, le-min {k = at + 1} {a = end + 1} {b = length text} (omega (arith, ends)) (omega arith));
+          moves = rw n (le-min {a = end + 1} {b = length text} (omega (arith, ends, min-le-left (at + 1) (length text))) (min-le-right (at + 1) (length text)));
         }

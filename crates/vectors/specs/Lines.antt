@@ -1,5 +1,5 @@
 -- A line of text as bytes: two hexadecimal digits to a byte. Spaces count for nothing, and `#` starts a comment.
-use Prim.Native.Nat.{ℕ, zero, suc, _+_, _*_, _-_, _≤_, _<_, min}
+use Prim.Native.Nat.{ℕ, zero, suc, _+_, _*_, _-_, _≤_, min}
 use mathlib.Core.Path.{_≡_}
 use mathlib.Core.Bool.{Bool, true, false, _&&_, cond}
 use mathlib.Core.List.{List, [], _∷_}
@@ -69,4 +69,4 @@ pub record Decoded (text : List ℕ) (at room : ℕ) (line : List ℕ) (r : Line
   pub bytes : take (r .len) line ≡ bytesOf room (signsAt text at)
   pub fits : r .len ≤ room
   pub within : r .next ≤ length text
-  pub moves : at < length text → at < r .next
+  pub moves : min (at + 1) (length text) ≤ r .next

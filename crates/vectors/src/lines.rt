@@ -21,6 +21,9 @@ struct Read {
     whole: bool,
 }
 
+// A line's first byte is its kind. With this bit set the line is spoiled: it is right to find it wrong.
+pub const SPOILED: u8 = 0x80;
+
 const NO_DIGIT: u8 = 16;
 
 // Reads the line that starts at `at` into `line`; past the text's end that is an empty one.

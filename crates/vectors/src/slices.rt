@@ -1,6 +1,6 @@
 // Parts of a line, for lines of any length.
 ghost use mathlib.Core.Path.{_≡_};
-ghost use lib.ListN.{drop};
+ghost use lib.ListN.{take, drop};
 ghost use Rattle.vectors.specs.Slices.{wholePart};
 
 // The `len` bytes of `s` from `at` on, or none where they run past its end.
@@ -24,4 +24,14 @@ pub fn rest(s: &[u8], at: usize) -> &[u8]
         return &s[..0];
     }
     &s[at..]
+}
+
+// The first `len` bytes of `s`, or all where there are fewer.
+pub fn front<'a>(s: &'a mut [u8], len: usize) -> &'a mut [u8]
+    ensures { λ r. ⌜ now r ≡ take len (now (s .entry)) ⌝ }
+{
+    if s.len() <= len {
+        return s;
+    }
+    &mut s[..len]
 }

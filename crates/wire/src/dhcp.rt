@@ -4,6 +4,12 @@
 pub const FIXED: usize = 240;
 
 // Fields.
+pub const OPERATION: usize = 0;
+
+pub const HARDWARE: usize = 1;
+
+pub const HARDWARE_LENGTH: usize = 2;
+
 pub const XID: usize = 4;
 
 pub const COOKIE: usize = 236;
@@ -25,3 +31,6 @@ pub const PAD: u8 = 0;
 pub const MESSAGE_TYPE: u8 = 53;
 
 pub const END: u8 = 255;
+
+// Message types, the values of option 53, run from 1 to this one.
+pub const LAST_TYPE: u8 = 8;

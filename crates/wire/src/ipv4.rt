@@ -29,6 +29,9 @@ pub const SOURCE: usize = 12;
 
 pub const TARGET: usize = 16;
 
+// Flags and offset of a packet that is whole and must stay so.
+pub const DONT_FRAGMENT: u16 = 0x4000;
+
 // Values of the protocol.
 pub const ICMP: u8 = 1;
 

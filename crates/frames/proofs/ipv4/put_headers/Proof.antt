@@ -3,8 +3,8 @@ use mathlib.Core.Path.{_≡_, sym}
 use native.Mathlib.Omega.{arith}
 use lib.ListN.{length}
 use Rattle.base.proofs.Lists.{no-fit}
-use Rattle.frames.proofs.Framed.{headers-put}
-use Rattle.frames.proofs.Lengths.{length-headers}
+use Rattle.base.proofs.Front.{two-pieces}
+use Rattle.frames.proofs.Lengths.{length-ethernet, length-header, length-headers}
 use borrow.Author.Needs.{needs}
 use Rattle.frames.proofs.ipv4.put_headers.Statement.{statement}
 use Rattle.frames.proofs.ipv4.put_headers.Tie as tie
@@ -27,7 +27,8 @@ returns-2 c =
     let six : length (a .dst-mac) ≡ 6 = omega (arith, start .good) in
     let four : length (a .src-ip) ≡ 4 = omega (arith, start .good) in
     let four′ : length (a .dst-ip) ≡ 4 = omega (arith, start .good) in
-    headers-put (a .dst-mac) (a .src-ip) (a .dst-ip) six four four′ (a .total) (a .id) (a .proto) (a .out .now) _ _ _ _ (omega (arith, room)) (ethernet .ethernet-header .ensures) (ip .header .ensures) (first .put .ensures) (second .put2 .ensures)
+    two-pieces _ _ 14 20 (a .out .now) _ _ _ _ (length-ethernet (a .dst-mac) 0x0800 six) (length-header (a .src-ip) (a .dst-ip) four four′ (a .total) (a .id) (a .proto)) (omega (arith, room))
+    (ethernet .ethernet-header .ensures) (ip .header .ensures) (first .put .ensures) (second .put2 .ensures)
 
 pub put-headers-spec : {M : Type 1} → statement M
 put-headers-spec =

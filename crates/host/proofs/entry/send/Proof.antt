@@ -20,7 +20,7 @@ use prog.Wp.{Heap, Calls, Loops, WpFn, Tables}
 use ghost.Atoms.{Atoms}
 use contract.Monad.{Fun, fact}
 use contract.Running.{givenOf, tables, tablesOf}
-use types.Kit.{Given, Item, ‵, raw, some, later, _⊛_, ⋆, _$_, _∵_, !, qed, by, move, keep, drop, use1, use3, split, join, cond, rewrite, fsplit, fsplit3, fjoin, fjoin3, feqL, feqI, suffices, frame, await, done}
+use types.Kit.{Given, Item, ‵, raw, some, later, _⊛_, ⋆, _$_, _∵_, !, qed, by, move, keep, drop, use1, use3, split, join, pick, rewrite, fsplit, fsplit3, fjoin, fjoin3, feqL, feqI, suffices, frame, await, done}
 use types.Run.{look, look-raw, store-raw, init, forget, stop, hop, fld, from, load, addr, of-opd, and-then, no-more, assigns, land, returns, enter, alloc1, alloc0, params1, pass1, pass0, free1, free0}
 use types.Part.{agg, whole, sub, look-in}
 use types.SemTy.{Body}
@@ -50,12 +50,12 @@ use Rattle.rules.specs.Rules.{outcome}
 use Rattle.record.specs.declared.answer.Verdict.{Verdict}
 use Rattle.record.specs.declared.guest.Guest.{Guest}
 use Rattle.record.specs.declared.answer.Answer.{Answer}
-use Rattle.frames.proofs.answer.Verdict as D
-use Rattle.frames.proofs.answer.Verdict.Laws as D′
-use Rattle.frames.proofs.answer.Guest as G
-use Rattle.frames.proofs.answer.Guest.Laws as G′
-use Rattle.frames.proofs.answer.Answer as N
-use Rattle.frames.proofs.answer.Answer.Laws as N′
+use Rattle.record.proofs.answer.Verdict as D
+use Rattle.record.proofs.answer.Verdict.Laws as D′
+use Rattle.record.proofs.guest.Guest as G
+use Rattle.record.proofs.guest.Guest.Laws as G′
+use Rattle.record.proofs.answer.Answer as N
+use Rattle.record.proofs.answer.Answer.Laws as N′
 use Rattle.slirp.proofs.handle as handle
 use Rattle.slirp.proofs.handle.Symbol as handle-def
 use Rattle.slirp.proofs.handle.Symbol.{name as #handle}
@@ -158,9 +158,9 @@ module _ {M : Type 1} (𝓤 : URA M) (H : Heap 𝓤) (A : Atoms 𝓤) (W : Given
         -- the call
         move ! (22 ∷ 0 ∷ 21 ∷ []) $ use3 W (raw (Handle 𝓤 H A at-mem run .pre to-handle)) goes $
         calls-at ! fm (Handle 𝓤 H A at-mem run) known to-handle (and-then ! (load ! (from ! (stop !)) (look ! 9 refl)) (and-then ! (load ! (from ! (stop !)) (look ! 15 refl)) (and-then ! (load ! (from ! (stop !)) (look ! 5 refl)) (no-more !)))) (λ w.
-        use1 W (later (some (λ (r : Answer). (tokens ⊛ ‵ (N.the-row .own r (w ∷ []))) ⊛ raw (ensured 𝓤 H A handle.ended (handle.clauses 𝓤 H A at-mem run) (κ₁, (κ₂, tt)) (h, (fr, (re, tt))) tt r)))) (id⊢ 𝓤 _) $ await ! tt $ cond ! (λ r.
+        use1 W (later (some (λ (r : Answer). (tokens ⊛ ‵ (N.the-row .own r (w ∷ []))) ⊛ raw (ensured 𝓤 H A handle.ended (handle.clauses 𝓤 H A at-mem run) (κ₁, (κ₂, tt)) (h, (fr, (re, tt))) tt r)))) (id⊢ 𝓤 _) $ await ! tt $ pick ! (λ r.
         -- what `handle` ensures, at some last list
-        split ! $ move ! (1 ∷ []) $ use1 W (some (λ (zs : Unit {0} × (Unit {0} × (List ℕ × Unit {0}))). ‵ (lasts handle.ended (κ₁, (κ₂, tt)) (h, (fr, (re, tt))) zs) ⊛ raw (fact 𝓤 (Said r (zs .1 .1 .0))))) (id⊢ 𝓤 _) $ cond ! (λ zs.
+        split ! $ move ! (1 ∷ []) $ use1 W (some (λ (zs : Unit {0} × (Unit {0} × (List ℕ × Unit {0}))). ‵ (lasts handle.ended (κ₁, (κ₂, tt)) (h, (fr, (re, tt))) zs) ⊛ raw (fact 𝓤 (Said r (zs .1 .1 .0))))) (id⊢ 𝓤 _) $ pick ! (λ zs.
         split ! $ move ! (1 ∷ []) $ heard ! (Said r (zs .1 .1 .0)) (λ e. fsplit ! $ drop ! $ fsplit ! $ drop ! $ fsplit ! $ fsplit ! $ move ! (1 ∷ []) $ feqL ! (λ l.
         move ! (2 ∷ []) $ split ! $ move ! (1 ∷ []) $ peeks ! N.the-row (Is N.the-row) (shows 𝓤 H A N.the-row) r (w ∷ []) (λ is.
         -- [what the answer owns; the slices' tokens; the last list; true; the record's cell at 4; the open borrow; obs; auth; _7 at 8; …; _6 at 10; _5 at 12; _4 at 14; _3 at 16; _2 at 18; _1 at 20; room for _0 at 22; …]

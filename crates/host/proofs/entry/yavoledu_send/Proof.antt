@@ -17,7 +17,7 @@ use prog.Wp.{Heap, Calls, Loops, WpFn, Tables}
 use ghost.Atoms.{Atoms}
 use contract.Monad.{Fun, fact}
 use contract.Running.{givenOf, tables, tablesOf}
-use types.Kit.{Given, Item, ‵, raw, some, later, _⊛_, ⋆, _$_, _∵_, !, qed, by, move, keep, drop, use1, use2, use3, split, join, cond, fsplit, fjoin, feqL, suffices, frame, await, done}
+use types.Kit.{Given, Item, ‵, raw, some, later, _⊛_, ⋆, _$_, _∵_, !, qed, by, move, keep, drop, use1, use2, use3, split, join, pick, fsplit, fjoin, feqL, suffices, frame, await, done}
 use types.Run.{look, init, forget, stop, hop, fld, from, load, addr, and-then, no-more, assigns, land, returns, enter, alloc1, alloc0, params1, pass1, pass0, free1, free0}
 use types.Part.{agg, whole, sub, look-in}
 use sound.WpLaws.{FmC, fmOf, WpFn-mono}
@@ -45,9 +45,9 @@ use Rattle.record.specs.declared.guest.Guest.{Guest}
 use Rattle.record.specs.declared.answer.Verdict.{Verdict}
 use Rattle.rules.specs.Rules.{outcome}
 use Rattle.host.specs.Exported.{padded}
-use Rattle.frames.proofs.answer.Verdict as D
-use Rattle.frames.proofs.answer.Verdict.Laws as D′
-use Rattle.frames.proofs.answer.Guest as G
+use Rattle.record.proofs.answer.Verdict as D
+use Rattle.record.proofs.answer.Verdict.Laws as D′
+use Rattle.record.proofs.guest.Guest as G
 use Rattle.host.proofs.Telling.{told-of}
 use Rattle.host.proofs.entry.send as send
 use Rattle.host.proofs.entry.send.Symbol as send-def
@@ -102,7 +102,7 @@ module _ {M : Type 1} (𝓤 : URA M) (H : Heap 𝓤) (A : Atoms 𝓤) (W : Given
   Said r g zs = core.Meets (outcome network h (fr .now) (length (re .now))) (re .now) zs (record { verdict = r; guest = g })
 
   abbrev Numbers : Verdict → ℕ → List ℕ → Type 0
-  Numbers r n vs = n ∷ vs ≡ padded (core.saidFor r)
+  Numbers r n vs = n ∷ vs ≡ padded (core.paper r)
 
   -- the tokens that `send` asks and gives back, and those of `numbered`
   abbrev tokens : Item 𝓤
@@ -167,9 +167,9 @@ module _ {M : Type 1} (𝓤 : URA M) (H : Heap 𝓤) (A : Atoms 𝓤) (W : Given
         -- the call of `send`
         move ! (22 ∷ 20 ∷ []) $ use2 W (raw (Send 𝓤 H A at-mem run .pre to-send)) goes-send $
         calls-at ! fm (Send 𝓤 H A at-mem run) known-send to-send (and-then ! (load ! (from ! (stop !)) (look ! 7 refl)) (and-then ! (load ! (from ! (stop !)) (look ! 15 refl)) (and-then ! (load ! (from ! (stop !)) (look ! 3 refl)) (no-more !)))) (λ w.
-        use1 W (later (some (λ (r : Verdict). (tokens ⊛ ‵ (D.the-row .own r (w ∷ []))) ⊛ raw (ensured 𝓤 H A send.ended (send.clauses 𝓤 H A at-mem run) (κ, (κ₁, (κ₂, tt))) (lent, (fr, (re, tt))) tt r)))) (id⊢ 𝓤 _) $ await ! tt $ cond ! (λ r.
+        use1 W (later (some (λ (r : Verdict). (tokens ⊛ ‵ (D.the-row .own r (w ∷ []))) ⊛ raw (ensured 𝓤 H A send.ended (send.clauses 𝓤 H A at-mem run) (κ, (κ₁, (κ₂, tt))) (lent, (fr, (re, tt))) tt r)))) (id⊢ 𝓤 _) $ await ! tt $ pick ! (λ r.
         -- what `send` ensures, at some last record and some last list
-        split ! $ move ! (1 ∷ []) $ use1 W (some (λ (zs : Guest × (Unit {0} × (List ℕ × Unit {0}))). ‵ (lasts send.ended (κ, (κ₁, (κ₂, tt))) (lent, (fr, (re, tt))) zs) ⊛ raw (fact 𝓤 (Said r (zs .0) (zs .1 .1 .0))))) (id⊢ 𝓤 _) $ cond ! (λ zs.
+        split ! $ move ! (1 ∷ []) $ use1 W (some (λ (zs : Guest × (Unit {0} × (List ℕ × Unit {0}))). ‵ (lasts send.ended (κ, (κ₁, (κ₂, tt))) (lent, (fr, (re, tt))) zs) ⊛ raw (fact 𝓤 (Said r (zs .0) (zs .1 .1 .0))))) (id⊢ 𝓤 _) $ pick ! (λ zs.
         split ! $ move ! (1 ∷ []) $ heard ! (Said r (zs .0) (zs .1 .1 .0)) (λ e. fsplit ! $ move ! (1 ∷ []) $ fsplit ! $ drop ! $ fsplit ! $ fsplit ! $ move ! (1 ∷ []) $ feqL ! (λ l.
         move ! (3 ∷ []) $ split ! $ move ! (1 ∷ []) $ peeks ! D.the-row (Is D.the-row) (shows 𝓤 H A D.the-row) r (w ∷ []) (λ is.
         -- [what the verdict owns; tokens; the last list; true; the last record; _9 at 5; …; _8 at 7; _7 at 9; _6 at 11; _5 at 13; _4 at 15; _3 at 17; _2 at 19; _1 at 21; room for _0 at 23; …; what the values' reference owns at 25; token₃]
@@ -178,8 +178,8 @@ module _ {M : Type 1} (𝓤 : URA M) (H : Heap 𝓤) (A : Atoms 𝓤) (W : Given
         -- the call of `numbered`
         move ! (26 ∷ 0 ∷ 25 ∷ []) $ use3 W (raw (Numbered 𝓤 H A at-mem run .pre (to-numbered r w))) (goes-numbered r w) $
         calls-at ! fm (Numbered 𝓤 H A at-mem run) known-numbered (to-numbered r w) (and-then ! (load ! (from ! (stop !)) (look ! 13 refl)) (and-then ! (load ! (from ! (stop !)) (look ! 5 refl)) (no-more !))) (λ w₂.
-        use1 W (later (some (λ (n : ℕ). (token₃ ⊛ ‵ (u32 .own n (w₂ ∷ []))) ⊛ raw (ensured 𝓤 H A numbered.ended (numbered.clauses 𝓤 H A at-mem run) (κ₃, tt) (r, (told, tt)) tt n)))) (id⊢ 𝓤 _) $ await ! tt $ cond ! (λ n.
-        split ! $ move ! (1 ∷ []) $ use1 W (some (λ (vs : Unit {0} × (List ℕ × Unit {0})). ‵ (lasts numbered.ended (κ₃, tt) (r, (told, tt)) vs) ⊛ raw (fact 𝓤 (Numbers r n (vs .1 .0))))) (id⊢ 𝓤 _) $ cond ! (λ vs.
+        use1 W (later (some (λ (n : ℕ). (token₃ ⊛ ‵ (u32 .own n (w₂ ∷ []))) ⊛ raw (ensured 𝓤 H A numbered.ended (numbered.clauses 𝓤 H A at-mem run) (κ₃, tt) (r, (told, tt)) tt n)))) (id⊢ 𝓤 _) $ await ! tt $ pick ! (λ n.
+        split ! $ move ! (1 ∷ []) $ use1 W (some (λ (vs : Unit {0} × (List ℕ × Unit {0})). ‵ (lasts numbered.ended (κ₃, tt) (r, (told, tt)) vs) ⊛ raw (fact 𝓤 (Numbers r n (vs .1 .0))))) (id⊢ 𝓤 _) $ pick ! (λ vs.
         split ! $ move ! (1 ∷ []) $ heard ! (Numbers r n (vs .1 .0)) (λ e₂. fsplit ! $ drop ! $ fsplit ! $
         move ! (2 ∷ []) $ split ! $ move ! (1 ∷ []) $ peeks ! u32 (Is u32) (shows 𝓤 H A u32) n (w₂ ∷ []) (λ is₂.
         -- [the number; token₃; the last values; true; tokens; the last list; true; the last record; _9 at 8; …; room for _0 at 26; …]

@@ -2,7 +2,7 @@
 use mathlib.Core.Path.{refl}
 use Rattle.host.proofs.Telling.{reported-of}
 use Rattle.host.specs.Parts.{kindNumber, numberOf, places, placesOf}
-use Rattle.reader.specs.Told.{told}
+use Rattle.reader.specs.Reported.{reportOf as told}
 use borrow.Author.Needs.{needs}
 use Rattle.host.proofs.reading.yavoledu_read.Statement.{statement}
 use Rattle.host.proofs.reading.yavoledu_read.Tie as tie

@@ -18,7 +18,7 @@ returns c = as-decided _ _ _ _ _ _ _ (sym (c .before .before .before .decide .en
 
 returns-2 : tie.Need-returns-2
 unfolding outcomeOf paper
-returns-2 c = as-decided _ _ _ _ _ _ _ (sym (c .before .before .before .before .before .decide .ensures) ∙ c .before .before .before .xid .given .1) (left-alone _ _ _ _ _ refl (c .answer2 .ensures ∙ ap (λ (g : Guest). record { verdict = Drop; guest = g }) (c .before .noted .ensures)))
+returns-2 c = as-decided _ _ _ _ _ _ _ (sym (c .before .before .before .before .before .decide .ensures) ∙ c .before .before .before .xid .given .1) (left-alone _ _ _ _ _ refl (c .answer2 .ensures ∙ ap (λ (g : Guest). record { verdict = Drop; guest = g }) (c .before .note .ensures)))
 
 returns-3 : tie.Need-returns-3
 unfolding outcomeOf paper

@@ -1,5 +1,0 @@
-pub mod Pieces
-pub mod ReadBack
-pub mod RoundTrip
-pub mod OneAnswer
-pub mod InBuffer

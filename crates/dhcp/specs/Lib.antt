@@ -1,2 +1,0 @@
-pub mod Rfc2131
-pub mod Pieces

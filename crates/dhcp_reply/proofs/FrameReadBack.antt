@@ -1,0 +1,38 @@
+-- The frame of a DHCP reply read by its fields, against RFC 791, 768 and 2131 as document 01 condenses them.
+use Prim.Native.Nat.{ℕ}
+use mathlib.Core.Path.{_≡_, refl, ap, sym, _∙_}
+use mathlib.Core.List.{List}
+use native.Mathlib.Omega.{arith}
+use lib.ListN.{length, drop}
+use lib.Seq.{drop-drop}
+use Rattle.dhcp_reply.specs.Reply.{reply, replySource, replyTarget, dhcpFrame, dhcpFrameTo}
+use Rattle.dhcp_reply.proofs.ReadBack.{ReplyOf, reply-reads-back}
+use Rattle.frames.proofs.Lengths.{length-datagram}
+use Rattle.frames.proofs.ReadBack.{DatagramOf, datagram-reads-back, FrameOf, frame-of}
+use Rattle.record.specs.Network.{broadcastOf, FourBytes}
+use Rattle.record.specs.declared.guest.Guest.{Guest}
+use Rattle.record.specs.declared.network.Network.{Network}
+use Rattle.wire.specs.Rfc768.{datagram}
+use Rattle.wire.specs.Rfc894.{sourceMac}
+
+-- the frame of a DHCP reply goes to the sender's MAC and the broadcast address, and holds the reply in its datagram
+pub record AnswersDhcp (answer : List ℕ) (net : Network) (guest : Guest) (frame : List ℕ) (xid type : ℕ) : Type 0 where
+  pub framed : FrameOf answer (sourceMac frame) (net .gateway) (broadcastOf net) (guest .id) 17 (datagram replySource replyTarget (reply net (guest .mac) xid type))
+  pub long : length answer ≡ 342
+  pub in-datagram : DatagramOf (drop 34 answer) replySource replyTarget
+  pub message : ReplyOf (drop 42 answer) net (guest .mac) xid type
+
+pub dhcp-reads-back : (net : Network) (guest : Guest) (frame : List ℕ) (xid type : ℕ) → FourBytes net → length (guest .mac) ≡ 6
+    → AnswersDhcp (dhcpFrame net guest frame xid type) net guest frame xid type
+unfolding dhcpFrameTo datagram
+dhcp-reads-back net guest frame xid type four six =
+    let d = datagram replySource replyTarget (reply net (guest .mac) xid type) in
+    let f = frame-of (sourceMac frame) (net .gateway) (broadcastOf net) (guest .id) 17 d refl (four .gateway) refl in
+    let inner : drop 42 (dhcpFrame net guest frame xid type) ≡ reply net (guest .mac) xid type =
+    sym (drop-drop 8 34 (dhcpFrame net guest frame xid type)) ∙ ap (drop 8) (f .carried) in
+    record {
+      framed = f;
+      long = omega (arith, f .long, length-datagram replySource replyTarget (reply net (guest .mac) xid type), reply-reads-back net (guest .mac) xid type four six .long);
+      in-datagram = rw (f .carried) (datagram-reads-back replySource replyTarget (reply net (guest .mac) xid type));
+      message = rw inner (reply-reads-back net (guest .mac) xid type four six);
+    }

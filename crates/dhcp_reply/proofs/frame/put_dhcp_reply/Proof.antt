@@ -1,0 +1,55 @@
+-- `frame::put_dhcp_reply` meets its contract: the headers, UDP's, and the reply behind them make the frame.
+use mathlib.Core.Path.{_≡_, refl, sym, _∙_}
+use native.Mathlib.Omega.{arith}
+use lib.ListN.{length, length-map}
+use Rattle.base.proofs.Lists.{no-fit}
+use Rattle.dhcp_reply.proofs.FramePieces.{length-dhcpFrameTo, frame-put}
+use Rattle.record.specs.Network.{FourBytes}
+use borrow.Author.Needs.{needs}
+use Rattle.dhcp_reply.proofs.frame.put_dhcp_reply.Statement.{statement}
+use Rattle.dhcp_reply.proofs.frame.put_dhcp_reply.Tie as tie
+
+returns : tie.Need-returns
+returns c =
+    let start = c .before .before in
+    let a = start .args in
+    let net = start .good .0 .1 .1 in
+    let four : FourBytes (a .net) =
+    record {
+      gateway = sym (length-map (a .net .gateway) _) ∙ net .0 .1 .0 .1;
+      guest = sym (length-map (a .net .guest) _) ∙ net .1 .0 .1 .0 .1;
+      mask = sym (length-map (a .net .mask) _) ∙ net .1 .1 .0 .1 .0 .1;
+    } in
+    let six : length (a .mac) ≡ 6 = omega (arith, start .good) in
+    let six′ : length (a .dst-mac) ≡ 6 = omega (arith, start .good) in
+    sym (no-fit 0 _ (a .out .now) (omega (arith, length-dhcpFrameTo (a .net) (a .mac) (a .id) (a .dst-mac) (a .xid) (a .kind) four six six′)))
+
+returns-2 : tie.Need-returns-2
+returns-2 c =
+    let message = c .before .before in
+    let header = message .before .before .before .before in
+    let made = header .before .before .before in
+    let headed = made .before .before .before in
+    let target = headed .before .before in
+    let tests = target .before .before in
+    let start = tests .before .before in
+    let a = start .args in
+    let net = start .good .0 .1 .1 in
+    let four : FourBytes (a .net) =
+    record {
+      gateway = sym (length-map (a .net .gateway) _) ∙ net .0 .1 .0 .1;
+      guest = sym (length-map (a .net .guest) _) ∙ net .1 .0 .1 .0 .1;
+      mask = sym (length-map (a .net .mask) _) ∙ net .1 .1 .0 .1 .0 .1;
+    } in
+    let six : length (a .mac) ≡ 6 = omega (arith, start .good) in
+    let six′ : length (a .dst-mac) ≡ 6 = omega (arith, start .good) in
+    frame-put (a .net) (a .mac) (a .id) (a .dst-mac) (a .xid) (a .kind) four six six′ (a .out .now) _ _ _ _ _ _ (tests .if1 .left) (target .broadcast .ensures) (headed .put-headers .ensures)
+    (made .udp-header .ensures) (header .put .ensures) (message .write-reply-of .ensures) refl
+
+pub put-dhcp-reply-spec : {M : Type 1} → statement M
+put-dhcp-reply-spec =
+    tie.close
+    (tie.spec returns (λ c. search needs) (λ c. search needs) (λ c κs. search needs) (λ c. search needs)
+    (λ c. search needs) (λ c κs. search needs) (λ c κs. search needs) (λ c. search needs)
+    (λ c κs. search needs) (λ c. search needs) (λ c. search needs) (λ c. search needs) (λ c κs. search needs)
+    (λ c. search needs) returns-2)

@@ -1,0 +1,56 @@
+// The reply in its datagram, in its frame, each written where it goes.
+ghost use mathlib.Core.Path.{_≡_};
+ghost use Rattle.base.specs.Buffer.{putIfFits};
+ghost use Rattle.dhcp_reply.specs.Reply.{dhcpFrameTo};
+use crate::reply::REPLY_LENGTH;
+use crate::reply::write_reply_of;
+use base::put;
+use frames::put_headers;
+use frames::udp_header;
+use record::Network;
+use wire::ethernet;
+use wire::ipv4;
+use wire::udp;
+
+// As in the Rust, from the client's port to the server's.
+const REPLY_SOURCE: u16 = udp::DHCP_CLIENT;
+
+const REPLY_TARGET: u16 = udp::DHCP_SERVER;
+
+const DATAGRAM_AT: usize = ethernet::HEADER + ipv4::HEADER;
+
+const MESSAGE_AT: usize = DATAGRAM_AT + udp::HEADER;
+
+pub const FRAME: usize = MESSAGE_AT + REPLY_LENGTH;
+
+// A reply of type `kind` to the message whose xid is `xid`, in its frame to `dst_mac`, at the front of `out`; where it does
+// not fit, nothing is written. `mac` is the record's, not the request's.
+pub fn put_dhcp_reply(
+    net: Network,
+    mac: [u8; 6],
+    id: u16,
+    dst_mac: [u8; 6],
+    xid: u32,
+    kind: u8,
+    out: &mut [u8],
+)
+    ensures { λ _. ⌜ now (out .exit) ≡ putIfFits 0 (dhcpFrameTo net mac id «dst_mac» xid kind) (now (out .entry)) ⌝ }
+{
+    if out.len() < FRAME {
+        return;
+    }
+    let gateway = net.gateway;
+    let datagram = (udp::HEADER + REPLY_LENGTH) as u16;
+    put_headers(
+        dst_mac,
+        id,
+        gateway,
+        net.broadcast(),
+        ipv4::UDP,
+        (ipv4::HEADER as u16) + datagram,
+        out,
+    );
+    let header = udp_header(REPLY_SOURCE, REPLY_TARGET, datagram);
+    put(out, DATAGRAM_AT, &header);
+    write_reply_of(net, mac, xid, kind, &mut out[MESSAGE_AT..]);
+}

@@ -1,0 +1,2 @@
+pub mod MessageRead
+pub mod helpers

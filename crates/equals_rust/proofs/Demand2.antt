@@ -1,0 +1,110 @@
+-- Demand 2 of the gateway: "On every frame where the Rust shown doesn't panic or cut a length to 16 bits, and the buffer has room for the reply, the verdict and reply bytes, and the record after a
+-- drop or reply, equal the Rust's from the same IP id, xid and guest MAC." The Rust is crate `published`: a build without overflow checks. `recordOf` a backend is the record with its id, xid and MAC.
+use Prim.Native.Nat.{ℕ, _≤_, _<_}
+use mathlib.Core.Path.{_≡_, refl, ap, subst}
+use mathlib.Core.Logic.{_⊎_, inl, inr, _↔_}
+use mathlib.Core.List.{List, [], _∷_}
+use native.Mathlib.Omega.{arith}
+use lib.ListN.{length}
+use Rattle.record.specs.Answer.{Outcome, Meets}
+use Rattle.record.specs.Guest.{fresh}
+use Rattle.record.specs.Network.{network}
+use Rattle.record.specs.declared.answer.Answer.{Answer}
+use Rattle.record.specs.declared.guest.Guest.{Guest}
+use Rattle.published.specs.Rust.{Run, gives, panics, cuts, unfinished, whole}
+use Rattle.published.specs.Backend.{SlirpBackend}
+use Rattle.published.specs.Slirp.{send, new}
+use Rattle.rules.specs.Rules.{payload, outcome, outcomeOf}
+use Rattle.record.specs.Answer.{unwritten}
+use Rattle.rules.specs.Seen.{CutMessage}
+use Rattle.equals_rust.specs.Alike.{recordOf, added, cameOf, Keeps, AllHandedOver}
+use Rattle.equals_rust.specs.Types.{Bytes, GuestTyped}
+use Rattle.equals_rust.specs.Where.{HeaderPast, TypeCut, PingOver}
+use Rattle.equals_rust.proofs.Foretold.{AtPanic, Foretells, foretells}
+use Rattle.equals_rust.proofs.OnAll.{header-past-panics, type-cut-panics, ping-over-cuts, cut-decided}
+
+-- every record is a backend's, and a new one is a new backend's
+pub every-record : (guest : Guest) → (self : SlirpBackend) × (recordOf self ≡ guest)
+every-record guest = (record { «guest_mac» = guest .mac; «rx_pending» = []; «dhcp_xid» = guest .xid; counter = guest .id; calls = [] }, refl)
+
+pub new-is-fresh : (mac : List ℕ) → recordOf (new mac) ≡ fresh mac
+new-is-fresh mac = refl
+
+-- For every frame and every backend, whatever it has pending, whose MAC and id are what their types say.
+module _ (self : SlirpBackend) (frame : List ℕ) (typed : GuestTyped (recordOf self)) (bytes : Bytes frame) where
+  -- what the run's end says of what is to come
+  at-end : (room : ℕ) (r : Run SlirpBackend) → send self (whole frame) ≡ r → Foretells self frame room r (outcome network (recordOf self) frame room)
+  at-end room r e = subst (λ (x : Run SlirpBackend). Foretells self frame room x (outcome network (recordOf self) frame room)) e (foretells self frame typed bytes room)
+
+  -- the Rust always ends: no loop wants more turns than its definition has
+  pub rust-ends : send self (whole frame) ≡ unfinished → ⊥
+  rust-ends e = at-end 0 unfinished e
+
+  -- exactly where it panics
+  pub rust-panics-exactly : (send self (whole frame) ≡ panics) ↔ (HeaderPast frame ⊎ TypeCut frame)
+  rust-panics-exactly = (λ e. only-these (at-end 0 panics e), on-all)
+    where
+      only-these : AtPanic self frame (outcome network (recordOf self) frame 0) → HeaderPast frame ⊎ TypeCut frame
+      only-these (inl (h, _)) = inl h
+      only-these (inr (place, m, _)) = inr (place, m)
+
+      on-all : HeaderPast frame ⊎ TypeCut frame → send self (whole frame) ≡ panics
+      on-all (inl h) = header-past-panics self frame h
+      on-all (inr (place, m)) = type-cut-panics self frame typed bytes place m
+
+  -- exactly where it cuts a length
+  pub rust-cuts-exactly : (send self (whole frame) ≡ cuts) ↔ PingOver frame
+  rust-cuts-exactly = (λ e. (length (payload frame), at-end 0 cuts e .0), λ p. ping-over-cuts self frame typed bytes (p .0) (p .1))
+
+  -- everywhere else it gives a backend
+  pub rust-gives-elsewhere : (HeaderPast frame → ⊥) → (TypeCut frame → ⊥) → (PingOver frame → ⊥) → (b : SlirpBackend) × (send self (whole frame) ≡ gives b)
+  rust-gives-elsewhere no-header no-type no-ping = go (send self (whole frame)) refl
+    where
+      no-panic : HeaderPast frame ⊎ TypeCut frame → ⊥
+      no-panic (inl h) = no-header h
+      no-panic (inr c) = no-type c
+
+      go : (r : Run SlirpBackend) → send self (whole frame) ≡ r → (b : SlirpBackend) × (send self (whole frame) ≡ gives b)
+      go (gives b) e = (b, e)
+      go panics e = absurd (no-panic (rust-panics-exactly .0 e))
+      go cuts e = absurd (no-ping (rust-cuts-exactly .0 e))
+      go unfinished e = absurd (rust-ends e)
+
+  -- it keeps what was pending, and what it calls is handed the frame's own data, MAC, addresses and ports
+  pub rust-keeps : (b : SlirpBackend) → send self (whole frame) ≡ gives b → Keeps self b
+  rust-keeps b e = at-end 0 (gives b) e .0
+
+  pub rust-hands-over : (b : SlirpBackend) → send self (whole frame) ≡ gives b → AllHandedOver frame (added (self .calls) (b .calls))
+  rust-hands-over b e = at-end 0 (gives b) e .1
+
+  -- Whatever answers a call with any buffer as `handle` promises: `m` is what it ensures (crates/slirp/src/entry.rt).
+  module _ (before after : List ℕ) (answer : Answer) (m : Meets (outcome network (recordOf self) frame (length before)) before after answer) where
+    meets : (o : Outcome) → outcome network (recordOf self) frame (length before) ≡ o → Meets o before after answer
+    meets o e = subst (λ (x : Outcome). Meets x before after answer) e m
+
+    -- Where the Rust gives, and the buffer has room for the reply: the same verdict and values, the same reply bytes, and after a drop or a reply the same record.
+    -- (After a call of what is outside it is the record up to that call: `relay_datagram` can take ids at once.)
+    pub handle-equals-the-rust : (b : SlirpBackend) → send self (whole frame) ≡ gives b → length (cameOf self b .writing .image) ≤ length before → Meets (cameOf self b) before after answer
+    handle-equals-the-rust b e room = meets (cameOf self b) (at-end (length before) (gives b) e .2 .0 room)
+
+    -- where it gives, and the buffer is shorter than its reply: 5 with the reply's length, and nothing has changed
+    pub handle-lacks-the-room : (b : SlirpBackend) → send self (whole frame) ≡ gives b → length before < length (cameOf self b .writing .image)
+        → Meets (unwritten (5 ∷ length (cameOf self b .writing .image) ∷ []) (recordOf self)) before after answer
+    handle-lacks-the-room b e short = meets _ (at-end (length before) (gives b) e .2 .1 short)
+
+    -- where a header runs past the frame, and the Rust panics: 0, and nothing has changed
+    pub handle-at-a-header-past : HeaderPast frame → Meets (unwritten (0 ∷ []) (recordOf self)) before after answer
+    handle-at-a-header-past h = go (at-end (length before) panics (header-past-panics self frame h))
+      where
+        go : AtPanic self frame (outcome network (recordOf self) frame (length before)) → Meets (unwritten (0 ∷ []) (recordOf self)) before after answer
+        go (inl (_, o)) = meets _ o
+        go (inr (_, c, _)) = absurd (omega (arith, h .past, c .message .datagram .there))
+
+    -- where a message type is cut off, and it panics too: 7 with the option's place, and nothing has changed
+    pub handle-at-a-cut-type : (place : ℕ) → CutMessage frame place → Meets (unwritten (7 ∷ place ∷ []) (recordOf self)) before after answer
+    unfolding outcome outcomeOf
+    handle-at-a-cut-type place c = meets _ (ap (outcomeOf network (recordOf self) frame (length before)) (cut-decided frame place c))
+
+    -- where it cuts a ping's length: 6 with the length, and nothing has changed
+    pub handle-at-a-ping-over : PingOver frame → Meets (unwritten (6 ∷ length (payload frame) ∷ []) (recordOf self)) before after answer
+    handle-at-a-ping-over p = meets _ (at-end (length before) cuts (ping-over-cuts self frame typed bytes (p .0) (p .1)) .1)

@@ -1,0 +1,23 @@
+-- The lines of gateway calls, and what is promised of one that is judged.
+use Prim.Native.Nat.{ℕ, _%_, _<_}
+use mathlib.Core.Path.{_≡_}
+use mathlib.Core.Bool.{Bool, true, _||_}
+use mathlib.Core.List.{List}
+use lib.ListN.{getD, drop}
+use lib.Dec.{eqb}
+use mathlib.Core.Bool.{cond}
+use Rattle.gateway_cases.specs.declared.calls.Outcome.{Outcome}
+
+-- the kinds of calls: 13 has the record before the call, 14 goes on with the last one
+abbrev pub isCall : ℕ → Bool
+isCall kind = eqb kind 13 || eqb kind 14
+
+-- The promise for the fields that both kinds have.
+pub record Judged (fields : List ℕ) (r : Outcome) : Type 0 where
+  pub verdict : r .verdict ≡ getD fields 17 0
+  pub whose : r .whose ≡ getD fields 12 0
+  pub named : r .named ≡ true → (r .verdict < 8) × (r .whose < 4)
+
+-- The promise of `called`: behind the kind, and the record before the call, stand these fields.
+abbrev pub Called : List ℕ → Outcome → Type 0
+Called line r = Judged (cond (eqb (getD line 0 0 % 128) 14) (drop 1 line) (drop 7 line)) r

@@ -1,0 +1,3 @@
+-- What the proofs of several tests use.
+mod Reading
+mod Pseudo
