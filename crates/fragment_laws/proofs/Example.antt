@@ -8,9 +8,9 @@ use borrow.Author.Tests.{ltb-true, ltb-false}
 use lib.Dec.{ltb}
 use Rattle.base.proofs.Choice.{by-test}
 use Rattle.sums.specs.Rfc1071.{words, sum, total, fold}
-use Rattle.packets.specs.Packets.{soundHeader, sound, isWhole, payloadLength, goodLength, datagramOf, fragmentOf, packetOf}
+use Rattle.fragment_packets.specs.Packets.{soundHeader, sound, isWhole, payloadLength, goodLength, datagramOf, fragmentOf, packetOf}
 use Rattle.wire.specs.Rfc791.{moreFragments, fragmentOffset}
-use Rattle.packets.specs.declared.packet.Datagram.{Datagram}
+use Rattle.fragment_packets.specs.declared.packet.Datagram.{Datagram}
 use Rattle.fragment_laws.specs.Trains.{Train}
 
 -- 1 to 8 at 0, more fragments to come

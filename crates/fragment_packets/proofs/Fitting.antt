@@ -11,9 +11,9 @@ use lib.Dec.{leb, eqb}
 use Rattle.base.proofs.Choice.{by-test, second-arm}
 use Rattle.wire.specs.Rfc791.{version, headerLength, totalLength, moreFragments, fragmentOffset}
 use Rattle.wire.specs.Rfc894.{body, typeOf}
-use Rattle.packets.specs.Packets.{soundHeader, sound, isWhole, payloadLength, goodLength, fragmentOf, endOf, packetOf}
-use Rattle.packets.specs.declared.packet.Fragment.{Fragment}
-use Rattle.packets.specs.declared.packet.Packet.the-variants.{Unfit, Whole, Part}
+use Rattle.fragment_packets.specs.Packets.{soundHeader, sound, isWhole, payloadLength, goodLength, fragmentOf, endOf, packetOf}
+use Rattle.fragment_packets.specs.declared.packet.Fragment.{Fragment}
+use Rattle.fragment_packets.specs.declared.packet.Packet.the-variants.{Unfit, Whole, Part}
 
 -- a packet of one kind is of no other
 unfit-no-part : {f : Fragment} → Unfit ≡ Part f → ⊥
