@@ -1,5 +1,4 @@
--- Nothing stale: whatever comes into an empty store, each byte of a complete payload was brought by a fit fragment of that datagram. Call by call the store
--- means what it says.
+-- Nothing stale: each byte of a payload that is complete since the store was empty was brought by a fit fragment of that datagram. Call by call the store means what it says.
 use Prim.Native.Nat.{ℕ, _-_, _*_, _/_, _≤_, _<_}
 use mathlib.Core.Path.{_≡_, refl, ap, sym, subst, _∙_}
 use mathlib.Core.Bool.{Bool, true, false, and-eq-true-iff, _||_, cond}

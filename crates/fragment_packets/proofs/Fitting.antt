@@ -1,5 +1,4 @@
--- What a frame that is not unfit has: a payload that lies in it, and as a fragment some bytes that end at 65,515 at most. The tests that it
--- passed say so.
+-- What a frame that is not unfit has, by the tests that it passed: a payload that lies in it, and as a fragment some bytes that end at 65,515 at most.
 use Prim.Native.Nat.{ℕ, _+_, _%_, _≤_}
 use mathlib.Core.Path.{_≡_, sym, subst}
 use mathlib.Core.Bool.{Bool, true, false, _&&_, _||_, not, and-eq-true-iff}
