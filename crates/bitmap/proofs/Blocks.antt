@@ -12,6 +12,7 @@ use lib.Dec.{leb, ltb, eqb}
 use lib.ListN.{length, getD, set}
 use lib.Pow.{shr-shr}
 use lib.Seq.{getD-set-same, getD-set-other}
+use Rattle.base.proofs.Choice.{by-test}
 use Rattle.bitmap.specs.Bitmap.{bit, count, having}
 use Rattle.bitmap.proofs.Digits.{digit, run, or-inside, or-below, or-above}
 
@@ -68,12 +69,9 @@ pub data Where (first stop b : ℕ) : Type 0 where
   behind : first ≤ b → stop ≤ b → Where first stop b
 
 pub where-is : (first stop b : ℕ) → Where first stop b
-where-is first stop b = go (ltb b first) (ltb b stop) refl refl
-  where
-    go : (s t : Bool) → ltb b first ≡ s → ltb b stop ≡ t → Where first stop b
-    go true t e f = before (ltb-true b first e)
-    go false true e f = within (ltb-false b first e) (ltb-true b stop f)
-    go false false e f = behind (ltb-false b first e) (ltb-false b stop f)
+where-is first stop b =
+    by-test (ltb b first) (λ e. before (ltb-true b first e))
+    (λ e. by-test (ltb b stop) (λ f. within (ltb-false b first e) (ltb-true b stop f)) (λ f. behind (ltb-false b first e) (ltb-false b stop f)))
 
 -- a run of no block
 pub having-none : (there : ℕ → ℕ) (first stop b : ℕ) → stop ≤ first → having there first stop b ≡ there b
@@ -98,13 +96,10 @@ grown-behind there first at stop b h k = above there first at b (omega arith) �
 
 -- a run marked until its end has been reached, or from the first not to be marked
 pub run-to : (there : ℕ → ℕ) (first at stop b : ℕ) → stop ≤ at → first ≤ at → at ≤ stop + (first - stop) → having there first at b ≡ having there first stop b
-run-to there first at stop b h j k = go (leb first stop) refl
-  where
-    go : (t : Bool) → leb first stop ≡ t → having there first at b ≡ having there first stop b
-    go true e = ap (λ (n : ℕ). having there first n b) {x = at} {y = stop} (omega (arith, leb-true first stop e))
-    go false e =
-        having-none there first at b (omega (arith, leb-false first stop e))
-        ∙ sym (having-none there first stop b (omega (arith, leb-false first stop e)))
+run-to there first at stop b h j k =
+    by-test (leb first stop)
+    (λ e. ap (λ (n : ℕ). having there first n b) {x = at} {y = stop} (omega (arith, leb-true first stop e)))
+    (λ e. having-none there first at b (omega (arith, leb-false first stop e)) ∙ sym (having-none there first stop b (omega (arith, leb-false first stop e))))
 
 -- One word more is marked: its digits from `lo` on, `n` of them. `cur` holds what is there once the run up to that place is marked.
 module _ (there : ℕ → ℕ) (cur : List ℕ) (first w lo n : ℕ) (in-word : lo + n ≤ 64) (started : first ≤ w * 64 + lo) (reached : w < length cur)
@@ -143,11 +138,10 @@ module _ (there : ℕ → ℕ) (cur : List ℕ) (first w lo n : ℕ) (in-word : 
   in-other-word b e (behind h k) = other b e ∙ so-far b ∙ grown-behind there first (w * 64 + lo) (w * 64 + lo + n) b (omega arith) k
 
   one-word-more : (b : ℕ) → bit marked b ≡ having there first (w * 64 + lo + n) b
-  one-word-more b = go (eqb (b / 64) w) refl
-    where
-      go : (t : Bool) → eqb (b / 64) w ≡ t → bit marked b ≡ having there first (w * 64 + lo + n) b
-      go true e = in-own-word b (eqb-true (b / 64) w e) (where-is (w * 64 + lo) (w * 64 + lo + n) b)
-      go false e = in-other-word b (eqb-false (b / 64) w e) (where-is (w * 64 + lo) (w * 64 + lo + n) b)
+  one-word-more b =
+      by-test (eqb (b / 64) w)
+      (λ e. in-own-word b (eqb-true (b / 64) w e) (where-is (w * 64 + lo) (w * 64 + lo + n) b))
+      (λ e. in-other-word b (eqb-false (b / 64) w e) (where-is (w * 64 + lo) (w * 64 + lo + n) b))
 
 -- the same where the run has come to any block
 pub marked-to : (there : ℕ → ℕ) (cur : List ℕ) (first at n : ℕ) → at % 64 + n ≤ 64 → first ≤ at → at / 64 < length cur

@@ -1,5 +1,4 @@
--- Nothing stale: whatever comes into an empty store, each byte of a complete payload was brought by a fit fragment of that datagram. Call by call the store
--- means what it says.
+-- Nothing stale: each byte of a payload that is complete since the store was empty was brought by a fit fragment of that datagram. Call by call the store means what it says.
 use Prim.Native.Nat.{ℕ, _-_, _*_, _/_, _≤_, _<_}
 use mathlib.Core.Path.{_≡_, refl, ap, sym, subst, _∙_}
 use mathlib.Core.Bool.{Bool, true, false, and-eq-true-iff, _||_, cond}
@@ -12,19 +11,19 @@ use lib.ListN.{length, drop}
 use Rattle.bitmap.specs.Bitmap.{bit, count, having}
 use Rattle.wire.specs.Rfc894.{body}
 use Rattle.fragments.specs.Promises.{Effect, Takes}
-use Rattle.packets.specs.Packets.{packetOf}
+use Rattle.fragment_packets.specs.Packets.{packetOf}
 use Rattle.fragments.specs.Rules.{Outcome, blocksOf, firstBlock, stopBlock, sameDatagram, isHeld, knownEnd, wrongEnd, endWith, ruling, settled, outcomeOf}
-use Rattle.packets.specs.Packets.{endOf}
+use Rattle.fragment_packets.specs.Packets.{endOf}
 use Rattle.fragments.specs.Answer as Answer
-use Rattle.packets.specs.declared.packet.Datagram.{Datagram}
+use Rattle.fragment_packets.specs.declared.packet.Datagram.{Datagram}
 use Rattle.fragments.specs.declared.answer.End.{End}
 use Rattle.fragments.specs.declared.answer.End.the-variants.{Unknown, At}
 use Rattle.fragments.specs.declared.answer.State.{State}
 use Rattle.fragments.specs.declared.answer.State.the-variants.{Empty, Filling, Complete}
-use Rattle.packets.specs.declared.packet.Fragment.{Fragment}
+use Rattle.fragment_packets.specs.declared.packet.Fragment.{Fragment}
 use Rattle.fragments.specs.declared.ruling.Ruling.{Ruling}
 use Rattle.fragments.specs.declared.ruling.Ruling.the-variants as Ruling
-use Rattle.packets.proofs.Fitting.{at-block, part-is, ends-at-block}
+use Rattle.fragment_packets.proofs.Fitting.{at-block, part-is, ends-at-block}
 use Rattle.fragments.proofs.Ruled.{Stored, stored}
 use Rattle.fragment_laws.specs.Calls.{Store, Sized, Vacant, Call, after, Runs, asks, leaves}
 use Rattle.fragment_laws.specs.Meaning.{Brought, BeforeEnd, Knows, Means, onto}

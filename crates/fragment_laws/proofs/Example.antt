@@ -1,17 +1,17 @@
 -- The order theorem speaks of something: two frames of one datagram are a train, the last one in front.
-use Prim.Native.Nat.{ℕ, _<_}
-use mathlib.Core.Bool.{Bool, true, false}
-use mathlib.Core.Path.{_≡_, refl}
+use Prim.Native.Nat.{ℕ}
+use mathlib.Core.Path.{refl}
 use mathlib.Core.Logic.{inl, inr}
 use mathlib.Core.List.{List, [], _∷_}
 use native.Mathlib.Omega.{arith}
 use borrow.Author.Tests.{ltb-true, ltb-false}
 use lib.Dec.{ltb}
+use Rattle.base.proofs.Choice.{by-test}
 use Rattle.sums.specs.Rfc1071.{words, sum, total, fold}
-use Rattle.packets.specs.Packets.{soundHeader, sound, isWhole, payloadLength, goodLength, datagramOf, fragmentOf, packetOf}
+use Rattle.fragment_packets.specs.Packets.{soundHeader, sound, isWhole, payloadLength, goodLength, datagramOf, fragmentOf, packetOf}
 use Rattle.wire.specs.Rfc791.{moreFragments, fragmentOffset}
-use Rattle.packets.specs.declared.packet.Datagram.{Datagram}
-use Rattle.fragment_laws.specs.Trains.{Some, Covers, Train}
+use Rattle.fragment_packets.specs.declared.packet.Datagram.{Datagram}
+use Rattle.fragment_laws.specs.Trains.{Train}
 
 -- 1 to 8 at 0, more fragments to come
 unfoldable pub one : List ℕ
@@ -32,12 +32,8 @@ a-train =
       none-gets-10 = (refl, (refl, tt));
       of-one-datagram = (refl, (refl, tt));
       do-not-overlap = ((inr (omega arith), tt), (tt, tt));
-      cover-from-0 = λ place h. go place h (ltb place 8) refl;
+      cover-from-0 = λ place h. by-test (ltb place 8) (λ e. inr (inl (omega arith, ltb-true place 8 e))) (λ e. inl (ltb-false place 8 e, h));
       one-last = refl;
       which-ends = inl (refl, refl);
       furthest = (omega arith, (omega arith, tt));
     }
-  where
-    go : (place : ℕ) → place < 11 → (t : Bool) → ltb place 8 ≡ t → Some (Covers place) (two ∷ one ∷ [])
-    go place h true e = inr (inl (omega arith, ltb-true place 8 e))
-    go place h false e = inl (ltb-false place 8 e, h)

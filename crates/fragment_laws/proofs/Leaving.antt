@@ -10,11 +10,11 @@ use Rattle.bitmap.specs.Bitmap.{bit, count}
 use Rattle.fragments.specs.Answer.{stored, complete, refused, saidFor}
 use Rattle.fragments.specs.Promises.{Untouched, Effect, Takes}
 use Rattle.fragments.specs.Rules.{Outcome, blocksOf, settled, ruling, outcomeOf}
-use Rattle.packets.specs.declared.packet.Datagram.{Datagram}
+use Rattle.fragment_packets.specs.declared.packet.Datagram.{Datagram}
 use Rattle.fragments.specs.declared.answer.End.{End}
 use Rattle.fragments.specs.declared.answer.End.the-variants.{Unknown, At}
 use Rattle.fragments.specs.declared.answer.State.the-variants.{Filling, Complete}
-use Rattle.packets.specs.declared.packet.Fragment.{Fragment}
+use Rattle.fragment_packets.specs.declared.packet.Fragment.{Fragment}
 use Rattle.fragments.specs.declared.ruling.Ruling.{Ruling}
 use Rattle.fragments.specs.declared.ruling.Ruling.the-variants as Ruling
 use Rattle.fragments.proofs.Ruled as Ruled

@@ -11,9 +11,9 @@ use Rattle.bitmap.specs.Bitmap.{bit}
 use Rattle.fragments.specs.Handing.{storedLength, storedPayload}
 use Rattle.fragments.specs.Promises.{Takes}
 use Rattle.fragments.specs.Rules.{isHeld, knownEnd}
-use Rattle.packets.specs.declared.packet.Datagram.{Datagram}
+use Rattle.fragment_packets.specs.declared.packet.Datagram.{Datagram}
 use Rattle.fragments.specs.declared.answer.State.the-variants.{Complete}
-use Rattle.packets.proofs.Fitting.{part-fits}
+use Rattle.fragment_packets.proofs.Fitting.{part-fits}
 use Rattle.fragment_laws.specs.Calls.{Store, Vacant, taking, Call, after, Runs, leaves, asks}
 use Rattle.fragment_laws.specs.Trains.{Permuted, All, piece, Fit, Covers, byteFor, Apart, Train, takings, StoredThenComplete, Among, none, its-own, passing, Arrived, EveryOrder}
 use Rattle.fragment_laws.proofs.Leaving.{takes, passes-by}

@@ -13,7 +13,7 @@ use Rattle.fragments.specs.Handing.{siteOf, storedPayload, payloadAt, payloadOf
 use Rattle.fragments.specs.Rules.{ofSize, isHeld, partRuling, packetRuling, ruling, outcomeOf}
 use Rattle.fragments.specs.declared.answer.Answer.{Answer}
 use Rattle.fragments.specs.declared.answer.Answer.the-variants as Answer
-use Rattle.packets.specs.declared.packet.Datagram.{Datagram}
+use Rattle.fragment_packets.specs.declared.packet.Datagram.{Datagram}
 use Rattle.fragments.specs.declared.answer.State.{State}
 use Rattle.fragments.specs.declared.answer.State.the-variants.{Complete}
 use Rattle.fragment_laws.specs.Calls.{Store, Sized, Vacant, taking, releasing, Call, after, Promised, Keeps, Runs, asks}

@@ -8,8 +8,8 @@ use lib.Seq.{getD-take, getD-drop, length-take-le}
 use Rattle.base.proofs.Lists.{length-put}
 use Rattle.base.specs.Bytes.{part}
 use Rattle.bitmap.specs.Bitmap.{bit, having}
-use Rattle.packets.proofs.Fitting.{Fits, part-fits}
-use Rattle.packets.specs.Packets.{endOf}
+use Rattle.fragment_packets.proofs.Fitting.{Fits, part-fits}
+use Rattle.fragment_packets.specs.Packets.{endOf}
 use Rattle.fragments.proofs.Storing.{marked}
 use Rattle.fragments.specs.Promises.{Effect}
 use Rattle.fragments.specs.Rules.{firstBlock, stopBlock}

@@ -4,7 +4,7 @@ use mathlib.Core.Path.{_≡_}
 use mathlib.Core.List.{List, [], _∷_}
 use lib.ListN.{getD}
 use Rattle.bitmap.specs.Bitmap.{bit}
-use Rattle.packets.specs.declared.packet.Datagram.{Datagram}
+use Rattle.fragment_packets.specs.declared.packet.Datagram.{Datagram}
 use Rattle.fragments.specs.declared.answer.End.{End}
 use Rattle.fragments.specs.declared.answer.End.the-variants.{Unknown, At}
 use Rattle.fragments.specs.declared.answer.State.{State}

@@ -12,12 +12,12 @@ use Rattle.base.specs.Runs.{each}
 use Rattle.wire.specs.Rfc894.{body}
 use Rattle.fragments.specs.Answer.{stored, complete, refused, saidFor}
 use Rattle.fragments.specs.Handing.{storedPayload}
-use Rattle.packets.specs.Packets.{packetOf, fragmentOf}
-use Rattle.packets.specs.Packets.{endOf}
-use Rattle.packets.specs.declared.packet.Datagram.{Datagram}
+use Rattle.fragment_packets.specs.Packets.{packetOf, fragmentOf}
+use Rattle.fragment_packets.specs.Packets.{endOf}
+use Rattle.fragment_packets.specs.declared.packet.Datagram.{Datagram}
 use Rattle.fragments.specs.declared.answer.State.the-variants.{Complete}
-use Rattle.packets.specs.declared.packet.Fragment.{Fragment}
-use Rattle.packets.specs.declared.packet.Packet.the-variants.{Part}
+use Rattle.fragment_packets.specs.declared.packet.Fragment.{Fragment}
+use Rattle.fragment_packets.specs.declared.packet.Packet.the-variants.{Part}
 use Rattle.fragment_laws.specs.Calls.{Store, Sized, Vacant, Call, Asked, taking, after, Runs, asks, leaves}
 
 -- one list is the other in another order

@@ -12,8 +12,8 @@ use Rattle.bitmap.specs.Bitmap.{bit, having, Marked}
 use Rattle.base.specs.Bytes.{part}
 use Rattle.base.specs.Buffer.{put, putIfFits}
 use Rattle.fragments.specs.Rules.{ofSize, blocksOf, firstBlock, stopBlock}
-use Rattle.packets.specs.Packets.{endOf}
-use Rattle.packets.specs.declared.packet.Fragment.{Fragment}
+use Rattle.fragment_packets.specs.Packets.{endOf}
+use Rattle.fragment_packets.specs.declared.packet.Fragment.{Fragment}
 
 -- a store of the right size
 pub of-size : (bytes bits : ℕ) → ofSize bytes bits ≡ true → (bytes ≡ 65515) × (bits ≡ 128)

@@ -6,17 +6,17 @@ use lib.Dec.{eqb, ltb}
 use lib.ListN.{length}
 use Rattle.bitmap.specs.Bitmap.{bit, count, having}
 use Rattle.fragments.specs.Answer.{Said, passed, stored, complete, saidFor}
-use Rattle.packets.specs.Packets.{packetOf, endOf}
+use Rattle.fragment_packets.specs.Packets.{packetOf, endOf}
 use Rattle.fragments.specs.declared.answer.Answer.{Answer}
 use Rattle.fragments.specs.declared.answer.Answer.the-variants as Answer
-use Rattle.packets.specs.declared.packet.Datagram.{Datagram}
+use Rattle.fragment_packets.specs.declared.packet.Datagram.{Datagram}
 use Rattle.fragments.specs.declared.answer.End.{End}
 use Rattle.fragments.specs.declared.answer.End.the-variants.{Unknown, At}
 use Rattle.fragments.specs.declared.answer.State.{State}
 use Rattle.fragments.specs.declared.answer.State.the-variants.{Empty, Filling, Complete}
-use Rattle.packets.specs.declared.packet.Fragment.{Fragment}
-use Rattle.packets.specs.declared.packet.Packet.{Packet}
-use Rattle.packets.specs.declared.packet.Packet.the-variants.{Unfit, Whole, Part}
+use Rattle.fragment_packets.specs.declared.packet.Fragment.{Fragment}
+use Rattle.fragment_packets.specs.declared.packet.Packet.{Packet}
+use Rattle.fragment_packets.specs.declared.packet.Packet.the-variants.{Unfit, Whole, Part}
 use Rattle.fragments.specs.declared.ruling.Ruling.{Ruling}
 use Rattle.fragments.specs.declared.ruling.Ruling.the-variants.{Refuse, Pass, Write}
 

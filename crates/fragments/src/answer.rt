@@ -1,5 +1,5 @@
 // What a store holds, beside its bytes and bits, and what a call answers.
-use packets::Datagram;
+use fragment_packets::Datagram;
 
 // Where the datagram's payload ends, once its last fragment has come.
 pub enum End {

@@ -1,14 +1,14 @@
 // The payload that an answer hands out, and where it lies.
 ghost use mathlib.Core.Path.{_≡_};
 ghost use Prim.Native.Nat.{_≤_};
-ghost use Rattle.packets.specs.Packets.{packetOf};
+ghost use Rattle.fragment_packets.specs.Packets.{packetOf};
 ghost use Rattle.fragments.specs.Handing.{siteOf, wholePayload, storedLength, storedPayload, payloadOf};
 use crate::answer::Answer;
 use crate::answer::Site;
 use crate::answer::State;
 use crate::answer::Taken;
-use packets::Packet;
-use packets::read;
+use fragment_packets::Packet;
+use fragment_packets::read;
 
 // The payload, as a part of the frame that passed or of the store that is complete; for every other
 // answer an empty part. It goes by the answer: a host that takes other frames before it uses the payload

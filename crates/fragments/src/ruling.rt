@@ -4,14 +4,14 @@ ghost use mathlib.Core.Path.{_≡_};
 ghost use Prim.Native.Nat.{_≤_, _<_};
 ghost use Rattle.bitmap.specs.Bitmap.{bit};
 ghost use Rattle.fragments.specs.Rules.{ruling, partRuling, isHeld, sameDatagram, overlaps, knownEnd, wrongEnd, endWith, ofSize, blocksOf};
-ghost use Rattle.packets.specs.Packets.{endOf};
+ghost use Rattle.fragment_packets.specs.Packets.{endOf};
 use crate::answer::Answer;
 use crate::answer::End;
 use crate::answer::State;
-use packets::Datagram;
-use packets::Fragment;
-use packets::Packet;
-use packets::read;
+use fragment_packets::Datagram;
+use fragment_packets::Fragment;
+use fragment_packets::Packet;
+use fragment_packets::read;
 use wire::ipv4;
 
 // The numbers of 64 bits that a bitmap is lent as, and the blocks that have a bit in them.

@@ -4,7 +4,7 @@ ghost use Prim.Native.Nat.{_+_, _≤_};
 ghost use lib.ListN.{length};
 ghost use Rattle.bitmap.specs.Bitmap.{bit, having};
 ghost use Rattle.fragments.specs.Rules.{firstBlock, stopBlock};
-ghost use Rattle.packets.specs.Packets.{endOf};
+ghost use Rattle.fragment_packets.specs.Packets.{endOf};
 ghost use Rattle.fragments.specs.helpers.Settling.{Settles};
 ghost use Rattle.fragments.specs.Promises.{Takes, Effect, Releases};
 use crate::answer::Answer;
@@ -17,8 +17,8 @@ use crate::ruling::blocks_of;
 use crate::ruling::is_of_size;
 use crate::ruling::rule;
 use base::put;
-use packets::Datagram;
-use packets::Fragment;
+use fragment_packets::Datagram;
+use fragment_packets::Fragment;
 
 // Takes a guest's frame into its store.
 pub fn take(state: State, frame: &[u8], bytes: &mut [u8], bits: &mut [u64]) -> Taken

@@ -7,7 +7,7 @@ use Rattle.fragment_laws.proofs.Orders.{every-order, all-its-own}
 use Rattle.fragment_laws.proofs.Standing.{released-is-vacant}
 use Rattle.fragment_laws.specs.Calls.{Store, Sized, Vacant, releasing, Call}
 use Rattle.fragment_laws.specs.Trains.{Permuted, Train, takings, All, Covers, byteFor}
-use Rattle.packets.specs.declared.packet.Datagram.{Datagram}
+use Rattle.fragment_packets.specs.declared.packet.Datagram.{Datagram}
 use Rattle.host_laws.proofs.AsCore.{coreCalls, as-core, same-asked, same-left, numbers-told, keeps, number-of, state-of}
 use Rattle.host_laws.specs.Made.{Lent, storeOf, Made, PromisedIt, Makes, asksOf, payloadIn, ArrivedThere}
 use Rattle.store_words.specs.Reports.{numberOf}

@@ -6,7 +6,7 @@ use mathlib.Core.Path.{_≡_, refl, ap, sym, _∙_}
 use lib.Dec.{eqb}
 use lib.ListN.{length}
 use Rattle.bitmap.specs.Bitmap.{count}
-use Rattle.packets.specs.declared.packet.Datagram.{Datagram}
+use Rattle.fragment_packets.specs.declared.packet.Datagram.{Datagram}
 use Rattle.fragments.specs.Answer.{stored, complete, released, refused, saidFor}
 use Rattle.fragments.specs.Promises.{Untouched, Does, Releases}
 use Rattle.fragments.specs.Rules.{Outcome, blocksOf, ofSize, outcomeOf, settled}

@@ -9,12 +9,12 @@ use Rattle.base.specs.Bytes.{part}
 use Rattle.bitmap.specs.Bitmap.{bit}
 use Rattle.wire.specs.Rfc791.{headerLength}
 use Rattle.wire.specs.Rfc894.{body}
-use Rattle.packets.proofs.Fitting.{whole-is}
-use Rattle.packets.specs.Packets.{packetOf, payloadLength}
-use Rattle.packets.specs.declared.packet.Datagram.{Datagram}
-use Rattle.packets.specs.declared.packet.Fragment.{Fragment}
-use Rattle.packets.specs.declared.packet.Packet.{Packet}
-use Rattle.packets.specs.declared.packet.Packet.the-variants.{Unfit, Whole, Part}
+use Rattle.fragment_packets.proofs.Fitting.{whole-is}
+use Rattle.fragment_packets.specs.Packets.{packetOf, payloadLength}
+use Rattle.fragment_packets.specs.declared.packet.Datagram.{Datagram}
+use Rattle.fragment_packets.specs.declared.packet.Fragment.{Fragment}
+use Rattle.fragment_packets.specs.declared.packet.Packet.{Packet}
+use Rattle.fragment_packets.specs.declared.packet.Packet.the-variants.{Unfit, Whole, Part}
 use Rattle.fragments.specs.Answer.{passed, saidFor}
 use Rattle.fragments.specs.Handing.{siteOf, wholePayload, storedPayload, payloadAt, payloadOf}
 use Rattle.fragments.specs.Promises.{Takes}

@@ -7,7 +7,7 @@ use Rattle.wire.specs.Rfc791.{headerLength}
 use Rattle.wire.specs.Rfc894.{body}
 use Rattle.fragments.specs.Handing.{siteOf, storedLength}
 use Rattle.fragments.specs.Answer.{Said, passed, stored, complete, released, refused, saidFor}
-use Rattle.packets.specs.Packets.{payloadLength}
+use Rattle.fragment_packets.specs.Packets.{payloadLength}
 use Rattle.fragments.specs.declared.answer.Answer.{Answer}
 use Rattle.fragments.specs.declared.answer.Site.{Site}
 use Rattle.fragments.specs.declared.answer.Site.the-variants as Site

@@ -4,7 +4,7 @@ ghost use mathlib.Core.Path.{_≡_};
 ghost use Prim.Native.Nat.{_+_};
 ghost use Rattle.wire.specs.Rfc791.{headerLength};
 ghost use Rattle.wire.specs.Rfc894.{body};
-ghost use Rattle.packets.specs.Packets.{payloadLength};
+ghost use Rattle.fragment_packets.specs.Packets.{payloadLength};
 ghost use Rattle.store_words.specs.Reports.{placeOf};
 use fragments::Site;
 use fragments::Taken;

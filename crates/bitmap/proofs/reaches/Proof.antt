@@ -1,21 +1,20 @@
 -- `reaches` meets its contract: the last block lies in a word that is there.
 use Prim.Native.Nat.{ℕ, _*_, _-_, _/_, _<_}
-use mathlib.Core.Bool.{Bool, true, false}
-use mathlib.Core.Path.{_≡_, refl, sym, _∙_}
+use mathlib.Core.Path.{_≡_, sym, _∙_}
 use native.Mathlib.Omega.{arith}
 use borrow.Author.Tests.{ltb-true, ltb-false, le-leb, lt-leb}
 use lib.Dec.{ltb, leb}
+use Rattle.base.proofs.Choice.{by-test}
 use borrow.Author.Needs.{needs}
 use Rattle.bitmap.proofs.reaches.Statement.{statement}
 use Rattle.bitmap.proofs.reaches.Tie as tie
 
 -- some block, and a word for the last
 reached : (len stop : ℕ) → 0 < stop → ltb ((stop - 1) / 64) len ≡ leb stop (len * 64)
-reached len stop h = go (ltb ((stop - 1) / 64) len) refl
-  where
-    go : (t : Bool) → ltb ((stop - 1) / 64) len ≡ t → ltb ((stop - 1) / 64) len ≡ leb stop (len * 64)
-    go true e = e ∙ sym (le-leb stop (len * 64) (omega (arith, ltb-true ((stop - 1) / 64) len e)))
-    go false e = e ∙ sym (lt-leb stop (len * 64) (omega (arith, ltb-false ((stop - 1) / 64) len e)))
+reached len stop h =
+    by-test (ltb ((stop - 1) / 64) len)
+    (λ e. e ∙ sym (le-leb stop (len * 64) (omega (arith, ltb-true ((stop - 1) / 64) len e))))
+    (λ e. e ∙ sym (lt-leb stop (len * 64) (omega (arith, ltb-false ((stop - 1) / 64) len e))))
 
 returns : tie.Need-returns
 returns c = sym (le-leb (c .before .args .stop) (c .before .args .len * 64) (omega arith))

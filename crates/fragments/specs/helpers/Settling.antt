@@ -1,7 +1,7 @@
 -- No reader has to believe this: the promise of `store::settle` and `store::write`, from which `take`'s own is proved.
 use Prim.Native.Nat.{ℕ}
 use mathlib.Core.Path.{_≡_}
-use Rattle.packets.specs.declared.packet.Datagram.{Datagram}
+use Rattle.fragment_packets.specs.declared.packet.Datagram.{Datagram}
 use Rattle.fragments.specs.Answer.{saidFor}
 use Rattle.fragments.specs.Rules.{settled}
 use Rattle.fragments.specs.declared.answer.End.{End}

@@ -1,6 +1,6 @@
 -- No reader has to believe this: that numbers are in the range of their types, from which it is proved that the words of a state are read as it.
 use Prim.Native.Nat.{_<_}
-use Rattle.packets.specs.declared.packet.Datagram.{Datagram}
+use Rattle.fragment_packets.specs.declared.packet.Datagram.{Datagram}
 use Rattle.fragments.specs.declared.answer.End.{End}
 use Rattle.fragments.specs.declared.answer.End.the-variants.{Unknown, At}
 use Rattle.fragments.specs.declared.answer.State.{State}

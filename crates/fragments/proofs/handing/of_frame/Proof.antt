@@ -5,7 +5,7 @@ use native.Mathlib.Omega.{arith}
 use lib.ListN.{take, drop}
 use Rattle.fragments.specs.Handing.{wholePayload}
 use borrow.Author.Needs.{needs}
-use Rattle.packets.proofs.Fitting.{whole-fits}
+use Rattle.fragment_packets.proofs.Fitting.{whole-fits}
 use Rattle.fragments.proofs.handing.of_frame.Statement.{statement}
 use Rattle.fragments.proofs.handing.of_frame.Tie as tie
 

@@ -6,9 +6,9 @@ use mathlib.Core.Path.{_≡_, sym, _∙_}
 use borrow.Author.Tests.{not-true, not-false}
 use lib.ListN.{length}
 use Rattle.bitmap.specs.Bitmap.{bit}
-use Rattle.packets.proofs.Fitting.{part-fits}
-use Rattle.packets.specs.Packets.{packetOf}
-use Rattle.packets.specs.declared.packet.Packet.{Packet}
+use Rattle.fragment_packets.proofs.Fitting.{part-fits}
+use Rattle.fragment_packets.specs.Packets.{packetOf}
+use Rattle.fragment_packets.specs.declared.packet.Packet.{Packet}
 use Rattle.fragments.specs.Rules.{ofSize, ruling, packetRuling}
 use Rattle.fragments.specs.declared.answer.Answer.the-variants as Answer
 use Rattle.fragments.specs.declared.answer.State.{State}

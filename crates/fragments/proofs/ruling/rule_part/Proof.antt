@@ -7,7 +7,7 @@ use Rattle.fragments.specs.declared.answer.Answer.the-variants as Answer
 use Rattle.fragments.specs.declared.answer.End.{End}
 use Rattle.fragments.specs.declared.answer.State.{State}
 use Rattle.fragments.specs.declared.ruling.Ruling.the-variants.{Refuse, Write}
-use Rattle.packets.specs.declared.packet.Fragment.{Fragment}
+use Rattle.fragment_packets.specs.declared.packet.Fragment.{Fragment}
 use borrow.Author.Needs.{needs}
 use Rattle.fragments.proofs.ruling.rule_part.Statement.{statement}
 use Rattle.fragments.proofs.ruling.rule_part.Tie as tie

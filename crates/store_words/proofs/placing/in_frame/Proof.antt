@@ -7,7 +7,7 @@ use lib.Seq.{getD-drop}
 use Rattle.base.specs.Bytes.{u16At}
 use Rattle.wire.specs.Rfc791.{headerLength, totalLength}
 use Rattle.wire.specs.Rfc894.{body}
-use Rattle.packets.specs.Packets.{payloadLength}
+use Rattle.fragment_packets.specs.Packets.{payloadLength}
 use borrow.Author.Needs.{needs}
 use Rattle.store_words.proofs.placing.in_frame.Statement.{statement}
 use Rattle.store_words.proofs.placing.in_frame.Tie as tie

@@ -9,10 +9,10 @@ use Rattle.sums.specs.Rfc1071.{total, fold}
 use Rattle.base.specs.Bytes.{u32At}
 use Rattle.wire.specs.Rfc791.{version, headerLength, totalLength, identification, moreFragments, fragmentOffset, protocolOf}
 use Rattle.wire.specs.Rfc894.{body, typeOf}
-use Rattle.packets.specs.declared.packet.Datagram.{Datagram}
-use Rattle.packets.specs.declared.packet.Fragment.{Fragment}
-use Rattle.packets.specs.declared.packet.Packet.{Packet}
-use Rattle.packets.specs.declared.packet.Packet.the-variants.{Unfit, Whole, Part}
+use Rattle.fragment_packets.specs.declared.packet.Datagram.{Datagram}
+use Rattle.fragment_packets.specs.declared.packet.Fragment.{Fragment}
+use Rattle.fragment_packets.specs.declared.packet.Packet.{Packet}
+use Rattle.fragment_packets.specs.declared.packet.Packet.the-variants.{Unfit, Whole, Part}
 
 -- "Here the IPv4 header has to be sound: version 4, header of 20 or more and within the total length, that within the frame, header sums right."
 unfoldable pub soundHeader : (packet : List ℕ) → Bool

@@ -10,10 +10,10 @@ use lib.Dec.{eqb}
 use lib.ListN.{length, take, length-take}
 use Rattle.sums.specs.Rfc1071.{total, fold}
 use Rattle.wire.specs.Rfc791.{version, headerLength, totalLength}
-use Rattle.packets.specs.Packets.{soundHeader}
+use Rattle.fragment_packets.specs.Packets.{soundHeader}
 use borrow.Author.Needs.{needs}
-use Rattle.packets.proofs.packet.has_sound_header.Statement.{statement}
-use Rattle.packets.proofs.packet.has_sound_header.Tie as tie
+use Rattle.fragment_packets.proofs.packet.has_sound_header.Statement.{statement}
+use Rattle.fragment_packets.proofs.packet.has_sound_header.Tie as tie
 
 other-version : (p : List ℕ) → (version p ≡ 4 → ⊥) → false ≡ soundHeader p
 unfolding soundHeader

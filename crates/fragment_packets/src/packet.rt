@@ -1,6 +1,6 @@
 // What a frame is: RFC 791, sections 3.1 and 3.2, as document 02 condenses them.
 ghost use mathlib.Core.Path.{_≡_};
-ghost use Rattle.packets.specs.Packets.{sound, soundHeader, packetOf, isWhole, goodLength, datagramOf};
+ghost use Rattle.fragment_packets.specs.Packets.{sound, soundHeader, packetOf, isWhole, goodLength, datagramOf};
 use sums::sum;
 use wire::bytes::byte_at;
 use wire::bytes::u16be;

@@ -1,8 +1,8 @@
 -- `is_good_length` meets its contract.
 use borrow.Author.Tests.{eq-eqb, ne-eqb, not-true, not-false}
-use Rattle.packets.specs.Packets.{goodLength}
-use Rattle.packets.proofs.packet.is_good_length.Statement.{statement}
-use Rattle.packets.proofs.packet.is_good_length.Tie as tie
+use Rattle.fragment_packets.specs.Packets.{goodLength}
+use Rattle.fragment_packets.proofs.packet.is_good_length.Statement.{statement}
+use Rattle.fragment_packets.proofs.packet.is_good_length.Tie as tie
 
 returns : tie.Need-returns
 unfolding goodLength

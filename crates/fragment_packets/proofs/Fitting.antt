@@ -1,5 +1,4 @@
--- What a frame that is not unfit has: a payload that lies in it, and as a fragment some bytes that end at 65,515 at most. The tests that it
--- passed say so.
+-- What a frame that is not unfit has, by the tests that it passed: a payload that lies in it, and as a fragment some bytes that end at 65,515 at most.
 use Prim.Native.Nat.{ℕ, _+_, _%_, _≤_}
 use mathlib.Core.Path.{_≡_, sym, subst}
 use mathlib.Core.Bool.{Bool, true, false, _&&_, _||_, not, and-eq-true-iff}
@@ -11,9 +10,9 @@ use lib.Dec.{leb, eqb}
 use Rattle.base.proofs.Choice.{by-test, second-arm}
 use Rattle.wire.specs.Rfc791.{version, headerLength, totalLength, moreFragments, fragmentOffset}
 use Rattle.wire.specs.Rfc894.{body, typeOf}
-use Rattle.packets.specs.Packets.{soundHeader, sound, isWhole, payloadLength, goodLength, fragmentOf, endOf, packetOf}
-use Rattle.packets.specs.declared.packet.Fragment.{Fragment}
-use Rattle.packets.specs.declared.packet.Packet.the-variants.{Unfit, Whole, Part}
+use Rattle.fragment_packets.specs.Packets.{soundHeader, sound, isWhole, payloadLength, goodLength, fragmentOf, endOf, packetOf}
+use Rattle.fragment_packets.specs.declared.packet.Fragment.{Fragment}
+use Rattle.fragment_packets.specs.declared.packet.Packet.the-variants.{Unfit, Whole, Part}
 
 -- a packet of one kind is of no other
 unfit-no-part : {f : Fragment} → Unfit ≡ Part f → ⊥

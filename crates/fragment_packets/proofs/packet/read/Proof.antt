@@ -8,13 +8,13 @@ use borrow.Author.Tests.{not-true, not-false, le-leb, lt-leb}
 use Rattle.base.proofs.Lists.{from-on}
 use Rattle.wire.specs.Rfc791.{headerLength, totalLength, moreFragments, fragmentOffset}
 use Rattle.wire.specs.Rfc894.{body}
-use Rattle.packets.specs.Packets.{sound, packetOf, isWhole, goodLength, payloadLength, datagramOf, fragmentOf}
-use Rattle.packets.specs.declared.packet.Datagram.{Datagram}
-use Rattle.packets.specs.declared.packet.Packet.the-variants.{Unfit, Whole, Part}
-use Rattle.packets.proofs.Fitting.{lengths}
+use Rattle.fragment_packets.specs.Packets.{sound, packetOf, isWhole, goodLength, payloadLength, datagramOf, fragmentOf}
+use Rattle.fragment_packets.specs.declared.packet.Datagram.{Datagram}
+use Rattle.fragment_packets.specs.declared.packet.Packet.the-variants.{Unfit, Whole, Part}
+use Rattle.fragment_packets.proofs.Fitting.{lengths}
 use borrow.Author.Needs.{needs}
-use Rattle.packets.proofs.packet.read.Statement.{statement}
-use Rattle.packets.proofs.packet.read.Tie as tie
+use Rattle.fragment_packets.proofs.packet.read.Statement.{statement}
+use Rattle.fragment_packets.proofs.packet.read.Tie as tie
 
 -- a test that is negated, passed and failed
 passed : {t : Bool} (r : Bool) → r ≡ t → not r ≡ false → t ≡ true

@@ -1,9 +1,9 @@
 -- `is_whole` meets its contract.
 use mathlib.Core.Path.{sym}
-use Rattle.packets.specs.Packets.{isWhole}
+use Rattle.fragment_packets.specs.Packets.{isWhole}
 use borrow.Author.Needs.{needs}
-use Rattle.packets.proofs.packet.is_whole.Statement.{statement}
-use Rattle.packets.proofs.packet.is_whole.Tie as tie
+use Rattle.fragment_packets.proofs.packet.is_whole.Statement.{statement}
+use Rattle.fragment_packets.proofs.packet.is_whole.Tie as tie
 
 returns : tie.Need-returns
 unfolding isWhole

@@ -1,8 +1,8 @@
 -- `datagram_of` meets its contract: four fields of the packet.
-use Rattle.packets.specs.Packets.{datagramOf}
+use Rattle.fragment_packets.specs.Packets.{datagramOf}
 use borrow.Author.Needs.{needs}
-use Rattle.packets.proofs.packet.datagram_of.Statement.{statement}
-use Rattle.packets.proofs.packet.datagram_of.Tie as tie
+use Rattle.fragment_packets.proofs.packet.datagram_of.Statement.{statement}
+use Rattle.fragment_packets.proofs.packet.datagram_of.Tie as tie
 
 returns : tie.Need-returns
 unfolding datagramOf

@@ -3,11 +3,11 @@ use mathlib.Core.Path.{_≡_, sym, ap, _∙_}
 use borrow.Author.Tests.{eq-eqb, ne-eqb, le-leb, lt-leb}
 use lib.ListN.{length}
 use Rattle.wire.specs.Rfc894.{body, typeOf}
-use Rattle.packets.specs.Packets.{sound, soundHeader}
+use Rattle.fragment_packets.specs.Packets.{sound, soundHeader}
 use Rattle.base.proofs.Lists.{from-on}
 use borrow.Author.Needs.{needs}
-use Rattle.packets.proofs.packet.is_sound.Statement.{statement}
-use Rattle.packets.proofs.packet.is_sound.Tie as tie
+use Rattle.fragment_packets.proofs.packet.is_sound.Statement.{statement}
+use Rattle.fragment_packets.proofs.packet.is_sound.Tie as tie
 
 returns : tie.Need-returns
 unfolding sound
