@@ -29,7 +29,6 @@ pub const SOURCE: usize = 12;
 
 pub const TARGET: usize = 16;
 
-
 // Values of the protocol.
 pub const ICMP: u8 = 1;
 
