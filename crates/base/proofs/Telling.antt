@@ -10,6 +10,7 @@ use lib.ListN.{length, take, drop}
 use Rattle.base.proofs.Lists.{from-on}
 use borrow.Author.Tests.{eqb-true, eqb-false, not-true, not-false}
 use Rattle.base.specs.Tells.{Tells}
+use Rattle.base.proofs.Choice.{by-test}
 
 pub tells-eq : {A : Type 0} (m n : ℕ) → (m ≡ n → A) → (A → m ≡ n) → Tells (eqb m n) A
 tells-eq {A} m n to from = go (eqb m n) refl
@@ -42,11 +43,10 @@ first-of (inr b) f = absurd (f b)
 
 -- 1 or 2, and neither less nor more
 pub one-or-two : (x : ℕ) → 1 ≤ x → x ≤ 2 → (x ≡ 1) ⊎ (x ≡ 2)
-one-or-two x a b = go (eqb x 1) refl
-  where
-    go : (t : Bool) → eqb x 1 ≡ t → (x ≡ 1) ⊎ (x ≡ 2)
-    go true e = inl (eqb-true x 1 e)
-    go false e = inr (let n = eqb-false x 1 e in omega (arith, n))
+one-or-two x a b =
+    by-test (eqb x 1)
+    (λ e. inl (eqb-true x 1 e))
+    (λ e. inr (let n = eqb-false x 1 e in omega (arith, n)))
 
 pub at-least-1 : (x : ℕ) → (x ≡ 1) ⊎ (x ≡ 2) → 1 ≤ x
 at-least-1 x (inl e) = omega arith

@@ -31,6 +31,7 @@ use Rattle.equals_rust.proofs.Operations.{ending, gives-one}
 use Rattle.equals_rust.proofs.Sum.{rust-checksum}
 use Rattle.equals_rust.proofs.Builders.{ip-frame-cut, ip-frame-given, udp-payload-cut, udp-payload-given}
 use Rattle.equals_rust.proofs.TcpBuilder.{tcp-frame-cut, tcp-frame-given}
+use Rattle.base.proofs.Choice.{by-test}
 
 -- A builder of the Rust's that cuts past a limit and gives `image` within it, beside the rule of 5 and 6.
 module _ {A : Type 0} (limit len : ℕ) (run : Run A) (value : A) (over : limit < len → run ≡ cuts) (within : len ≤ limit → run ≡ gives value) where
@@ -42,27 +43,26 @@ module _ {A : Type 0} (limit len : ℕ) (run : Run A) (value : A) (over : limit 
     no-more-turns : run ≡ unfinished → ⊥
 
   ended : Ended
-  ended = go (ltb limit len) refl
-    where
-      go : (t : Bool) → ltb limit len ≡ t → Ended
-      go true e =
-          let h = ltb-true limit len e in
-          let c = over h in
-          record {
-            cuts-there = ((λ _. h), over);
-            gives-there = λ a f. absurd (omega (arith, ap ending (sym c ∙ f)));
-            no-panic = λ f. omega (arith, ap ending (sym c ∙ f));
-            no-more-turns = λ f. omega (arith, ap ending (sym c ∙ f));
-          }
-      go false e =
-          let h = ltb-false limit len e in
-          let g = within h in
-          record {
-            cuts-there = ((λ f. absurd (omega (arith, ap ending (sym g ∙ f)))), (λ past. absurd (omega (arith, h, past))));
-            gives-there = λ a f. (h, gives-one value a (sym g ∙ f));
-            no-panic = λ f. omega (arith, ap ending (sym g ∙ f));
-            no-more-turns = λ f. omega (arith, ap ending (sym g ∙ f));
-          }
+  ended =
+      by-test (ltb limit len)
+      (λ e.
+      let h = ltb-true limit len e in
+      let c = over h in
+      record {
+        cuts-there = ((λ _. h), over);
+        gives-there = λ a f. absurd (omega (arith, ap ending (sym c ∙ f)));
+        no-panic = λ f. omega (arith, ap ending (sym c ∙ f));
+        no-more-turns = λ f. omega (arith, ap ending (sym c ∙ f));
+      })
+      (λ e.
+      let h = ltb-false limit len e in
+      let g = within h in
+      record {
+        cuts-there = ((λ f. absurd (omega (arith, ap ending (sym g ∙ f)))), (λ past. absurd (omega (arith, h, past))));
+        gives-there = λ a f. (h, gives-one value a (sym g ∙ f));
+        no-panic = λ f. omega (arith, ap ending (sym g ∙ f));
+        no-more-turns = λ f. omega (arith, ap ending (sym g ∙ f));
+      })
 
 -- one that takes an id
 module _ (guest : Guest) (limit len need : ℕ) (image : List ℕ) (run : Run Counted) (size : length image ≡ need) (over : limit < len → run ≡ cuts)

@@ -43,6 +43,7 @@ use Rattle.equals_rust.proofs.Operations.{index-in, range-in, array-of,
 use Rattle.equals_rust.proofs.Lease.{ran, message-type-walks, lease-sent}
 use Rattle.equals_rust.proofs.Ping.{answered, ping-cut, ping-answered}
 use Rattle.equals_rust.proofs.Fields.{range-at, u16be-in, eth-src, eth-type, ip-proto, ip-src, ip-dst, payload-there, payload-past}
+use Rattle.base.proofs.Choice.{by-test}
 
 -- what a run comes to, by the decision
 unfoldable pub Ran : (self : SlirpBackend) (frame : List ℕ) → Run SlirpBackend → Decision → Type 0
@@ -85,11 +86,10 @@ and-swap false false = refl
 
 -- "the smaller of length field and payload end"
 smaller : (stated there : ℕ) → min stated there ≡ cond (ltb there stated) there stated
-smaller stated there = go (ltb there stated) refl
-  where
-    go : (t : Bool) → ltb there stated ≡ t → min stated there ≡ cond (ltb there stated) there stated
-    go true e = rw e (omega (arith, ltb-true there stated e))
-    go false e = rw e (omega (arith, ltb-false there stated e))
+smaller stated there =
+    by-test (ltb there stated)
+    (λ e. rw e (omega (arith, ltb-true there stated e)))
+    (λ e. rw e (omega (arith, ltb-false there stated e)))
 
 module _ (self : SlirpBackend) (frame : List ℕ) where
   dropped : Ran self frame (gives self) Drop

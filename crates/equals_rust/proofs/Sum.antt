@@ -15,6 +15,7 @@ use Rattle.sums.specs.Rfc1071.{words, sum, total, fold, checksum}
 use Rattle.sums.proofs.Laws.{fold-pos, fold-small, total-step, total-last, total-none}
 use Rattle.equals_rust.specs.Types.{Bytes}
 use Rattle.equals_rust.proofs.Operations.{index-in}
+use Rattle.base.proofs.Choice.{by-test}
 
 -- the loop over the words: what is summed so far and what is left, modulo 2^32
 sum-from : (turns : ℕ) (s : List ℕ) (i running : ℕ) → running < 4294967296 → i ≤ length s → length s < i + turns
@@ -57,22 +58,18 @@ fold-once zero = refl
 fold-once (suc s) = rw (fold-pos (suc s % 65536 + suc s / 65536) (omega arith)) (omega arith)
 
 fold-two-turns : (turns s : ℕ) → s < 131071 → folded (suc (suc turns)) s ≡ gives (fold s)
-fold-two-turns turns s h = go (ltb s 65536) refl
-  where
-    go : (small : Bool) → ltb s 65536 ≡ small → folded (suc (suc turns)) s ≡ gives (fold s)
-    go true e = fold-done (suc turns) s (ltb-true s 65536 e)
-    go false e =
-        let big = ltb-false s 65536 e in
-        fold-turn (suc turns) s big (omega arith) ∙ fold-done turns (s % 65536 + s / 65536) (omega (arith, big)) ∙ ap gives (fold-once s)
+fold-two-turns turns s h =
+    by-test (ltb s 65536)
+    (λ e. fold-done (suc turns) s (ltb-true s 65536 e))
+    (λ e.
+    let big = ltb-false s 65536 e in
+    fold-turn (suc turns) s big (omega arith) ∙ fold-done turns (s % 65536 + s / 65536) (omega (arith, big)) ∙ ap gives (fold-once s))
 
 folds : (s : ℕ) → s < 4294967296 → folded 3 s ≡ gives (fold s)
-folds s h = go (ltb s 65536) refl
-  where
-    go : (small : Bool) → ltb s 65536 ≡ small → folded 3 s ≡ gives (fold s)
-    go true e = fold-done 2 s (ltb-true s 65536 e)
-    go false e =
-        let big = ltb-false s 65536 e in
-        fold-turn 2 s big h ∙ fold-two-turns 0 (s % 65536 + s / 65536) (omega arith) ∙ ap gives (fold-once s)
+folds s h =
+    by-test (ltb s 65536)
+    (λ e. fold-done 2 s (ltb-true s 65536 e))
+    (λ e. let big = ltb-false s 65536 e in fold-turn 2 s big h ∙ fold-two-turns 0 (s % 65536 + s / 65536) (omega arith) ∙ ap gives (fold-once s))
 
 -- on every input: RFC 1071's fold of the sum modulo 2^32
 pub rust-sum : (s : List ℕ) → rustChecksum (whole s) ≡ gives (65535 - fold (total s % 4294967296))

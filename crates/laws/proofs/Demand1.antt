@@ -32,6 +32,7 @@ use Rattle.arp_reply.proofs.ReadBack.{arp-reads-back}
 use Rattle.echo_reply.proofs.ReadBack.{echo-frame-reads-back}
 use Rattle.dhcp_reply.proofs.FrameReadBack.{dhcp-reads-back}
 use Rattle.laws.specs.Table.{built, replyAtAmpleRoom, Returned, Unchanged, kept, noted, AtMostXid, ReplyBytesIdXid, Changed}
+use Rattle.base.proofs.Choice.{by-test}
 
 -- every answer has a number, and it is one of 0 to 7 (where there were none, this would read 8)
 pub numbered : (v : Verdict) → getD (paper v) 0 8 ≤ 7
@@ -53,15 +54,14 @@ data Framed (guest next : Guest) (image before after : List ℕ) (answer : Answe
 framed : (guest next : Guest) (need : ℕ) (image before after : List ℕ) (answer : Answer) → length image ≡ need → 0 < need
     → Meets (framing guest next need (length before) image) before after answer → Framed guest next image before after answer
 unfolding framing paper
-framed guest next need image before after answer e p m = go (ltb (length before) need) refl
-  where
-    go : (t : Bool) → ltb (length before) need ≡ t → Framed guest next image before after answer
-    go true f =
-        let m′ = rw f at m in
-        short (omega (arith, ltb-true (length before) need f, e)) (paper-one-to-one _ (Verdict.NoRoom (length image)) (m′ .wrote .numbers ∙ ap (λ (n : ℕ). 5 ∷ n ∷ []) (sym e))) (m′ .guest) (m′ .wrote .bytes)
-    go false f =
-        let m′ = rw f at m in
-        fits (omega (arith, e, p)) (omega (arith, ltb-false (length before) need f, e)) (paper-one-to-one _ (Verdict.Reply (length image)) (m′ .wrote .numbers ∙ ap (λ (n : ℕ). 1 ∷ n ∷ []) (sym e))) (m′ .guest) (m′ .wrote .bytes)
+framed guest next need image before after answer e p m =
+    by-test (ltb (length before) need)
+    (λ f.
+    let m′ = rw f at m in
+    short (omega (arith, ltb-true (length before) need f, e)) (paper-one-to-one _ (Verdict.NoRoom (length image)) (m′ .wrote .numbers ∙ ap (λ (n : ℕ). 5 ∷ n ∷ []) (sym e))) (m′ .guest) (m′ .wrote .bytes))
+    (λ f.
+    let m′ = rw f at m in
+    fits (omega (arith, e, p)) (omega (arith, ltb-false (length before) need f, e)) (paper-one-to-one _ (Verdict.Reply (length image)) (m′ .wrote .numbers ∙ ap (λ (n : ℕ). 1 ∷ n ∷ []) (sym e))) (m′ .guest) (m′ .wrote .bytes))
 
 -- nothing is written
 record Quiet (v : Verdict) (next : Guest) (before after : List ℕ) (answer : Answer) : Type 0 where

@@ -10,6 +10,7 @@ use borrow.Author.Tests.{leb-true, leb-false}
 use lib.Dec.{eqb, leb}
 use Rattle.options.specs.Rfc2132.{Walked, typed, cut, decides, typeAt, walk, walkFrom}
 use Rattle.options.proofs.Sentences.{end-of-data}
+use Rattle.base.proofs.Choice.{by-test}
 
 -- what the walk over the first bytes comes to, beside the walk over all: the same, no type, or a cut where two bytes are left
 pub data Shortened (whole part : Walked) (ended : ℕ) : Type 0 where
@@ -59,13 +60,12 @@ drop-take (suc n) k (x ∷ s) =
 -- the first `k` bytes of a message, beside the whole of it
 pub cut-short : (message : List ℕ) (k : ℕ) → Shortened (walk message) (walk (take k message)) k
 unfolding walk
-cut-short message k = go (leb k 240) refl
-  where
-    go : (t : Bool) → leb k 240 ≡ t → Shortened (walkFrom 240 0 (drop 240 message)) (walkFrom 240 0 (drop 240 (take k message))) k
-    go true e = no-type (ap (walkFrom 240 0) (drop-of-length-le (take k message) {i = 240} (simp length-take (omega (arith, leb-true k 240 e)))) ∙ end-of-data 240)
-    go false e =
-        let long : k ≡ 240 + (k - 240) = omega (arith, leb-false k 240 e) in
-        ended-at (sym long)
-        (subst (λ (s : List ℕ). Shortened (walkFrom 240 0 (drop 240 message)) (walkFrom 240 0 s) (240 + (k - 240)))
-        (sym (ap (λ (n : ℕ). drop 240 (take n message)) long ∙ drop-take 240 (k - 240) message))
-        (shortened (drop 240 message) 240 0 (k - 240)))
+cut-short message k =
+    by-test (leb k 240)
+    (λ e. no-type (ap (walkFrom 240 0) (drop-of-length-le (take k message) {i = 240} (simp length-take (omega (arith, leb-true k 240 e)))) ∙ end-of-data 240))
+    (λ e.
+    let long : k ≡ 240 + (k - 240) = omega (arith, leb-false k 240 e) in
+    ended-at (sym long)
+    (subst (λ (s : List ℕ). Shortened (walkFrom 240 0 (drop 240 message)) (walkFrom 240 0 s) (240 + (k - 240)))
+    (sym (ap (λ (n : ℕ). drop 240 (take n message)) long ∙ drop-take 240 (k - 240) message))
+    (shortened (drop 240 message) 240 0 (k - 240))))

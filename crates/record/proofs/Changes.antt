@@ -1,7 +1,6 @@
 -- When a call that builds answers 6, 5 and 1, and what each changes: on 6 and 5 neither the record nor one byte.
 use Prim.Native.Nat.{ℕ, _≤_, _<_}
 use mathlib.Core.Path.{_≡_, refl, ap, _∙_}
-use mathlib.Core.Bool.{Bool, true, false}
 use mathlib.Core.List.{List, [], _∷_, _++_}
 use native.Mathlib.Omega.{arith}
 use borrow.Author.Tests.{ltb-true, ltb-false, lt-ltb, le-ltb}
@@ -13,6 +12,7 @@ use Rattle.record.specs.Guest.{spent}
 use Rattle.record.specs.declared.guest.Guest.{Guest}
 use Rattle.record.specs.declared.answer.Answer.{Answer}
 use Rattle.record.specs.declared.answer.Verdict.{Verdict}
+use Rattle.base.proofs.Choice.{by-test}
 
 module _ (limit len need room : ℕ) (image before after : List ℕ) where
   -- the three cases of a call that answers a verdict
@@ -23,12 +23,13 @@ module _ (limit len need room : ℕ) (image before after : List ℕ) where
 
   pub came : (v : Verdict) → Wrote (building limit len need room image) before after v → Came v
   unfolding building
-  came v w = go (ltb limit len) (ltb room need) refl refl
-    where
-      go : (x y : Bool) → ltb limit len ≡ x → ltb room need ≡ y → Came v
-      go true y e f = let w′ = rw e at w in past-limit (ltb-true limit len e) (w′ .numbers) (w′ .bytes)
-      go false true e f = let w′ = rw (e, f) at w in short-room (ltb-false limit len e) (ltb-true room need f) (w′ .numbers) (w′ .bytes)
-      go false false e f = let w′ = rw (e, f) at w in built (ltb-false limit len e) (ltb-false room need f) (w′ .numbers) (w′ .bytes)
+  came v w =
+      by-test (ltb limit len)
+      (λ e. let w′ = rw e at w in past-limit (ltb-true limit len e) (w′ .numbers) (w′ .bytes))
+      (λ e.
+      by-test (ltb room need)
+      (λ f. let w′ = rw (e, f) at w in short-room (ltb-false limit len e) (ltb-true room need f) (w′ .numbers) (w′ .bytes))
+      (λ f. let w′ = rw (e, f) at w in built (ltb-false limit len e) (ltb-false room need f) (w′ .numbers) (w′ .bytes)))
 
   module _ (v : Verdict) (w : Wrote (building limit len need room image) before after v) where
     -- 6 exactly past the limit; it says the length, and not one byte changes
