@@ -14,7 +14,7 @@ pub data Run (A : Type 0) : Type 0 where
   panics : Run A
   -- `as` cuts a length. The Rust goes on, with a wrong length; here the run is over
   cuts : Run A
-  -- a loop wants more turns than its definition has; that none does is proved (crate `equal`)
+  -- a loop wants more turns than its definition has; that none does is proved (crate `equals_rust`)
   unfinished : Run A
 
 infixr 20 _>>=_ _>>_

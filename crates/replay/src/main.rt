@@ -1,4 +1,4 @@
-// Replays stored vectors: calls of `sums`, `frames`, `tcp`, `options`, `dhcp` and `slirp` with the
+// Replays stored vectors: calls of `sums`, `frames`, `tcp`, `options`, `dhcp_reply` and `slirp` with the
 // answers that others gave, one to a line of standard input (oracle/README.md has the form). It prints
 // how many of each kind ran and agreed.
 mod rows;
