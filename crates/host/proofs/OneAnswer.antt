@@ -17,7 +17,8 @@ use Rattle.grammar.proofs.Exact.{one-report}
 use Rattle.grammar.specs.Grammar.{Layer, laid}
 use Rattle.grammar.specs.Report.{Report, arpKind, icmpKind, udpKind, dhcpKind, tcpKind, otherIPv4Kind, parts, refused}
 use Rattle.host.specs.Parts.{Reported, kindNumber, numberOf, places, placesOf}
-use Rattle.host.specs.Exported.{Built, Sent, Told, padded}
+use Rattle.host.specs.Exported.{Built, Sent, Told}
+use Rattle.verdict_numbers.specs.Numbers.{padded}
 use Rattle.reader.specs.Reported.{reportOf as told}
 use Rattle.reader.specs.declared.parts.Reading.{Reading}
 use Rattle.reader.specs.declared.parts.Reading.the-variants.{Arp, Icmp, Udp, Dhcp, Tcp as Reading·Tcp, OtherIpv4, Outside}

@@ -5,7 +5,8 @@ use mathlib.Core.Path.{_≡_, refl, ap, sym, subst, _∙_}
 use lib.ListN.{length, getD}
 use Rattle.record.specs.Network.{network}
 use Rattle.record.specs.declared.guest.Guest.{Guest}
-use Rattle.host.specs.Exported.{Sent, padded}
+use Rattle.host.specs.Exported.{Sent}
+use Rattle.verdict_numbers.specs.Numbers.{padded}
 use Rattle.rules.proofs.Room.{never-five, never-longer}
 use Rattle.rules.specs.Room.{Ample}
 use Rattle.rules.specs.Rules.{outcome}

@@ -11,7 +11,8 @@ use Rattle.record.specs.declared.guest.Guest.{Guest}
 use Rattle.record.specs.declared.answer.Verdict.{Verdict}
 use Rattle.grammar.specs.Report.{Reads}
 use Rattle.host.specs.Parts.{Reported, numberOf, placesOf}
-use Rattle.host.specs.Exported.{Built, Told, padded}
+use Rattle.host.specs.Exported.{Built, Told}
+use Rattle.verdict_numbers.specs.Numbers.{padded}
 use Rattle.reader.specs.Reported.{reportOf as told·reading}
 use Rattle.reader.specs.declared.parts.Reading.{Reading}
 

@@ -1,14 +1,11 @@
 -- What an exported call tells its caller in C: a number, and values behind it.
 use Prim.Native.Nat.{ℕ}
 use mathlib.Core.Path.{_≡_}
-use mathlib.Core.List.{List, [], _∷_, _++_}
-use lib.ListN.{length, take, drop}
+use mathlib.Core.List.{List, _∷_, _++_}
+use lib.ListN.{length, drop}
+use Rattle.verdict_numbers.specs.Numbers.{padded}
 use Rattle.record.specs.Answer.{Writing, Outcome}
 use Rattle.record.specs.declared.guest.Guest.{Guest}
-
--- document 01's number of a verdict and two values, 0 where it has fewer
-unfoldable pub padded : List ℕ → List ℕ
-padded numbers = take 3 (numbers ++ 0 ∷ 0 ∷ [])
 
 -- The promise of a call that writes: the number and the values are those that are to come, and so is every byte of the buffer.
 pub record Told (w : Writing) (before after : List ℕ) (number : ℕ) (values : List ℕ) : Type 0 where

@@ -5,10 +5,10 @@ ghost use mathlib.Core.List.{[], _∷_};
 ghost use Rattle.frames.specs.Builders.{makeIpFrame, makeUdpPayload};
 ghost use Rattle.record.specs.Answer.{paper};
 ghost use Rattle.record.specs.Guest.{known};
-ghost use Rattle.host.specs.Exported.{Built, Told, padded};
+ghost use Rattle.host.specs.Exported.{Built, Told};
+ghost use Rattle.verdict_numbers.specs.Numbers.{padded};
 ghost use Rattle.sums.specs.Rfc1071.{checksum as Rfc1071·checksum};
 ghost use Rattle.tcp.specs.Builders.{makeTcpFrame};
-use crate::numbers::numbered;
 use frames::make_ip_frame;
 use frames::make_udp_payload;
 use record::Answer;
@@ -16,6 +16,7 @@ use record::Guest;
 use sums::checksum;
 use tcp::Endpoints;
 use tcp::make_tcp_frame;
+use verdict_numbers::numbered;
 
 #[no_mangle]
 pub extern "C" fn yavoledu_make_ip_frame(

@@ -1,27 +1,13 @@
-// The thin entry: the record is lent, and the new one is stored.
+// The entry for C.
 ghost use lib.ListN.{length};
-ghost use Rattle.record.specs.Answer.{Meets};
 ghost use Rattle.record.specs.Network.{network};
 ghost use Rattle.host.specs.Exported.{Sent};
 ghost use Rattle.rules.specs.Rules.{outcome};
-use crate::numbers::numbered;
+use lent_record::send;
 use record::Guest;
-use record::Verdict;
-use slirp::handle;
+use verdict_numbers::numbered;
 
-// What a frame of this guest gets. The promise is `handle`'s, of the verdict and of the record as it stands behind
-// the reference afterwards.
-pub fn send(guest: &mut Guest, frame: &[u8], reply: &mut [u8]) -> Verdict
-    ensures { λ r. ⌜ Meets
-        (outcome network (now (guest .entry)) (now (frame .entry)) (length (now (reply .entry))))
-        (now (reply .entry)) (now (reply .exit)) (record { verdict = r; guest = now (guest .exit) }) ⌝ }
-{
-    let answer = handle(*guest, frame, reply);
-    *guest = answer.guest;
-    answer.verdict
-}
-
-// The same, its verdict told as a number and two values.
+// What a frame of this guest gets, as `send` answers it, its verdict told as a number and two values.
 #[no_mangle]
 pub extern "C" fn yavoledu_send(
     guest: &mut Guest,

@@ -2,8 +2,7 @@
 // `include/yavoledu.h` has the exported functions as C sees them. No function has a `requires`.
 mod builders;
 mod entry;
-mod numbers;
 mod reading;
 mod reassembly;
 
-pub use entry::send;
+pub use lent_record::send;

@@ -44,19 +44,19 @@ use Rattle.record.specs.Network.{network}
 use Rattle.record.specs.declared.guest.Guest.{Guest}
 use Rattle.record.specs.declared.answer.Verdict.{Verdict}
 use Rattle.rules.specs.Rules.{outcome}
-use Rattle.host.specs.Exported.{padded}
+use Rattle.verdict_numbers.specs.Numbers.{padded}
 use Rattle.record.proofs.answer.Verdict as D
 use Rattle.record.proofs.answer.Verdict.Laws as D′
 use Rattle.record.proofs.guest.Guest as G
 use Rattle.host.proofs.Telling.{told-of}
-use Rattle.host.proofs.entry.send as send
-use Rattle.host.proofs.entry.send.Symbol as send-def
-use Rattle.host.proofs.entry.send.Symbol.{name as #send}
-use Rattle.host.proofs.entry.send.Met as send-thm
-use Rattle.host.proofs.numbers.numbered as numbered
-use Rattle.host.proofs.numbers.numbered.Symbol as numbered-def
-use Rattle.host.proofs.numbers.numbered.Symbol.{name as #numbered}
-use Rattle.host.proofs.numbers.numbered.Met as numbered-thm
+use Rattle.lent_record.proofs.send as send
+use Rattle.lent_record.proofs.send.Symbol as send-def
+use Rattle.lent_record.proofs.send.Symbol.{name as #send}
+use Rattle.lent_record.proofs.send.Met as send-thm
+use Rattle.verdict_numbers.proofs.numbered as numbered
+use Rattle.verdict_numbers.proofs.numbered.Symbol as numbered-def
+use Rattle.verdict_numbers.proofs.numbered.Symbol.{name as #numbered}
+use Rattle.verdict_numbers.proofs.numbered.Met as numbered-thm
 use Rattle.host.proofs.entry.yavoledu_send.Key.{name as #yavoledu-send}
 use Rattle.host.proofs.entry.yavoledu_send as exported
 use Rattle.host.proofs.entry.yavoledu_send.Statement as stated
@@ -208,5 +208,5 @@ yavoledu-send-spec 𝓤 H 𝓜 𝓖 𝓡 =
     entered 𝓤 H (tripleOf 𝓤 H (𝓖 .A) exported.signature (exported.spec 𝓤 H (𝓖 .A) (𝓜 .mem) (𝓡 .run)))
     (tables 𝓤 H 𝓜 𝓡 code.env .C) (tables 𝓤 H 𝓜 𝓡 code.env .Λ) #yavoledu-send code.function (code.unfolded 𝓤 H 𝓜 𝓡)
     (exported-meets 𝓤 H (𝓖 .A) (givenOf 𝓤 H 𝓜 𝓖) (𝓜 .mem) (𝓡 .run) (tablesOf 𝓤 H 𝓜 (tables 𝓤 H 𝓜 𝓡 code.env))
-    (cited 𝓤 H (Send 𝓤 H (𝓖 .A) (𝓜 .mem) (𝓡 .run)) 𝓜 𝓡 code.env #send send-def.routine code.calls-host·entry·send (send-thm.met 𝓤 H 𝓜 𝓖 𝓡))
-    (cited 𝓤 H (Numbered 𝓤 H (𝓖 .A) (𝓜 .mem) (𝓡 .run)) 𝓜 𝓡 code.env #numbered numbered-def.routine code.calls-host·numbers·numbered (numbered-thm.met 𝓤 H 𝓜 𝓖 𝓡)))
+    (cited 𝓤 H (Send 𝓤 H (𝓖 .A) (𝓜 .mem) (𝓡 .run)) 𝓜 𝓡 code.env #send send-def.routine code.calls-lent-record·send (send-thm.met 𝓤 H 𝓜 𝓖 𝓡))
+    (cited 𝓤 H (Numbered 𝓤 H (𝓖 .A) (𝓜 .mem) (𝓡 .run)) 𝓜 𝓡 code.env #numbered numbered-def.routine code.calls-verdict-numbers·numbered (numbered-thm.met 𝓤 H 𝓜 𝓖 𝓡)))

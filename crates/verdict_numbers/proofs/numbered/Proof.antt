@@ -2,10 +2,10 @@
 use mathlib.Core.Path.{_≡_, sym, ap, _∙_}
 use Rattle.record.specs.Answer.{paper}
 use Rattle.record.specs.declared.answer.Verdict.{Verdict}
-use Rattle.host.specs.Exported.{padded}
+use Rattle.verdict_numbers.specs.Numbers.{padded}
 use borrow.Author.Needs.{needs}
-use Rattle.host.proofs.numbers.numbered.Statement.{statement}
-use Rattle.host.proofs.numbers.numbered.Tie as tie
+use Rattle.verdict_numbers.proofs.numbered.Statement.{statement}
+use Rattle.verdict_numbers.proofs.numbered.Tie as tie
 
 -- what is told of the verdict that a pattern names is told of the verdict
 as-told : {v w : Verdict} → v ≡ w → padded (paper w) ≡ padded (paper v)

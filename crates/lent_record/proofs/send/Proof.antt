@@ -60,10 +60,10 @@ use Rattle.slirp.proofs.handle as handle
 use Rattle.slirp.proofs.handle.Symbol as handle-def
 use Rattle.slirp.proofs.handle.Symbol.{name as #handle}
 use Rattle.slirp.proofs.handle.Met as handle-thm
-use Rattle.host.proofs.entry.send.Key.{name as #send}
-use Rattle.host.proofs.entry.send as send
-use Rattle.host.proofs.entry.send.Statement as stated
-use Rattle.host.proofs.entry.send.Code as code
+use Rattle.lent_record.proofs.send.Key.{name as #send}
+use Rattle.lent_record.proofs.send as send
+use Rattle.lent_record.proofs.send.Statement as stated
+use Rattle.lent_record.proofs.send.Code as code
 
 abbrev stayed : Stays (send.ended .signature .params) (send.ended .kept)
 stayed = (stay-ref (0 ∷ []) tt (plain (λ _. G.the-row)), (stay-dropped (shrSliceOf (1 ∷ []) tt (plain (λ _. u8))) yes, (gave-slice (2 ∷ []) tt (plain (λ _. u8)), tt)))

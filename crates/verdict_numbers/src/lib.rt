@@ -1,11 +1,11 @@
-// A verdict as C is told it: document 01's number, which is returned, and its values.
+// A verdict as C is told it: document 01's number, which is returned, and its values. Nothing relies on checks by its caller.
 ghost use mathlib.Core.List.{[], _∷_};
 ghost use mathlib.Core.Path.{_≡_};
 ghost use Rattle.record.specs.Answer.{paper};
-ghost use Rattle.host.specs.Exported.{padded};
+ghost use Rattle.verdict_numbers.specs.Numbers.{padded};
 use record::Verdict;
 
-pub(crate) fn numbered(verdict: Verdict, values: &mut [usize; 2]) -> u32
+pub fn numbered(verdict: Verdict, values: &mut [usize; 2]) -> u32
     ensures { λ r. ⌜ r ∷ now (values .exit) ≡ padded (paper verdict) ⌝ }
 {
     match verdict {
