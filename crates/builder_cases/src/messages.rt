@@ -69,7 +69,7 @@ pub fn reply_types(line: &[u8]) -> bool {
         return false;
     }
     for kind in 0..=255u8 {
-        if dhcp_reply::reply_type(kind) != byte_at(line, 1 + (kind as usize)) {
+        if dhcp_message::reply_type(kind) != byte_at(line, 1 + (kind as usize)) {
             return false;
         }
     }
@@ -83,7 +83,7 @@ pub fn builds_reply(line: &[u8]) -> bool {
     if out.len() < room {
         return false;
     }
-    let verdict = dhcp_reply::build_reply(
+    let verdict = dhcp_message::build_reply(
         Network::new(),
         mac_at(line, 5),
         u32be(line, 1),

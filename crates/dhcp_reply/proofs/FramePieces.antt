@@ -3,12 +3,13 @@ use Prim.Native.Nat.{ℕ, _+_, _-_, _≤_}
 use mathlib.Core.Path.{_≡_, refl, ap, ap₂, sym, _∙_}
 use mathlib.Core.List.{List, _++_, append-assoc}
 use native.Mathlib.Omega.{arith}
-use lib.ListN.{length, take, drop}
+use lib.ListN.{length, take, drop, length-take, length-drop}
 use Rattle.base.proofs.Front.{nothing-yet, behind-as, behind-in-part}
-use Rattle.base.proofs.Lists.{fits}
+use Rattle.base.proofs.Lists.{fits, length-put}
 use Rattle.base.specs.Buffer.{put, putIfFits}
-use Rattle.dhcp_reply.proofs.ReadBack.{reply-reads-back}
-use Rattle.dhcp_reply.specs.Reply.{reply, replySource, replyTarget, dhcpFrameTo}
+use Rattle.dhcp_message.proofs.ReadBack.{reply-reads-back}
+use Rattle.dhcp_message.specs.Message.{reply}
+use Rattle.dhcp_reply.specs.Reply.{replySource, replyTarget, dhcpFrameTo}
 use Rattle.frames.proofs.Lengths.{length-headers, length-ipFrame, length-datagram}
 use Rattle.frames.specs.Frames.{headers, ipFrame}
 use Rattle.record.specs.Network.{broadcastOf, FourBytes}
@@ -44,11 +45,13 @@ module _ (net : Network) (mac : List ℕ) (id : ℕ) (to : List ℕ) (xid kind :
   pub frame-put : (b target now header now′ rest after : List ℕ) → 342 ≤ length b
       → target ≡ broadcastOf net → now ≡ putIfFits 0 (headers to 328 id 17 (net .gateway) target) b
       → header ≡ datagramHeader replySource replyTarget 308 → now′ ≡ putIfFits 34 header now
-      → rest ≡ put 0 (reply net mac xid kind) (take (length now′ - 42) (drop 42 now′)) → after ≡ take 42 now′ ++ (rest ++ drop (length now′ - 42) (drop 42 now′))
+      → rest ≡ putIfFits 0 (reply net mac xid kind) (take (length now′ - 42) (drop 42 now′)) → after ≡ take 42 now′ ++ (rest ++ drop (length now′ - 42) (drop 42 now′))
       → after ≡ putIfFits 0 (dhcpFrameTo net mac id to xid kind) b
   unfolding its-headers
   frame-put b target now header now′ rest after room e p f q r s =
       let one = behind-as (nothing-yet b) its-headers 34 length-its-headers (omega arith) _ (ap (headers to 328 id 17 (net .gateway)) e) p in
       let two = behind-as one (datagramHeader replySource replyTarget 308) 8 refl (omega arith) header f q in
-      let three = behind-in-part two (reply net mac xid kind) 300 long (omega arith) rest r s in
+      let same : length now′ ≡ length b = ap length (two .bytes) ∙ length-put 0 (its-headers ++ datagramHeader replySource replyTarget 308) b (omega (arith, two .long)) in
+      let there = fits 0 (reply net mac xid kind) (take (length now′ - 42) (drop 42 now′)) (simp (length-take, length-drop) (omega (arith, long, same))) in
+      let three = behind-in-part two (reply net mac xid kind) 300 long (omega arith) rest (r ∙ there) s in
       three .bytes ∙ ap (λ (l : List ℕ). put 0 l b) in-pieces ∙ sym (fits 0 (dhcpFrameTo net mac id to xid kind) b (omega (arith, length-dhcpFrameTo)))

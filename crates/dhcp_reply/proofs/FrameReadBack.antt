@@ -5,8 +5,9 @@ use mathlib.Core.List.{List}
 use native.Mathlib.Omega.{arith}
 use lib.ListN.{length, drop}
 use lib.Seq.{drop-drop}
-use Rattle.dhcp_reply.specs.Reply.{reply, replySource, replyTarget, dhcpFrame, dhcpFrameTo}
-use Rattle.dhcp_reply.proofs.ReadBack.{ReplyOf, reply-reads-back}
+use Rattle.dhcp_message.specs.Message.{reply}
+use Rattle.dhcp_reply.specs.Reply.{replySource, replyTarget, dhcpFrame, dhcpFrameTo}
+use Rattle.dhcp_message.proofs.ReadBack.{ReplyOf, reply-reads-back}
 use Rattle.frames.proofs.Lengths.{length-datagram}
 use Rattle.frames.proofs.ReadBack.{DatagramOf, datagram-reads-back, FrameOf, frame-of}
 use Rattle.record.specs.Network.{broadcastOf, FourBytes}

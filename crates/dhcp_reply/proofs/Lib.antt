@@ -1,7 +1,2 @@
-pub mod Pieces
-pub mod ReadBack
-pub mod RoundTrip
-pub mod InBuffer
-pub mod OneAnswer
-pub mod FrameReadBack
 pub mod FramePieces
+pub mod FrameReadBack

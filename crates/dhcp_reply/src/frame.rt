@@ -1,10 +1,10 @@
-// The reply in its datagram, in its frame, each written where it goes.
+// The frame.
 ghost use mathlib.Core.Path.{_≡_};
 ghost use Rattle.base.specs.Buffer.{putIfFits};
 ghost use Rattle.dhcp_reply.specs.Reply.{dhcpFrameTo};
-use crate::reply::REPLY_LENGTH;
-use crate::reply::write_reply_of;
 use base::put;
+use dhcp_message::REPLY_LENGTH;
+use dhcp_message::put_reply;
 use frames::put_headers;
 use frames::udp_header;
 use record::Network;
@@ -52,5 +52,5 @@ pub fn put_dhcp_reply(
     );
     let header = udp_header(REPLY_SOURCE, REPLY_TARGET, datagram);
     put(out, DATAGRAM_AT, &header);
-    write_reply_of(net, mac, xid, kind, &mut out[MESSAGE_AT..]);
+    put_reply(net, mac, xid, kind, &mut out[MESSAGE_AT..]);
 }

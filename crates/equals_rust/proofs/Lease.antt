@@ -8,9 +8,9 @@ use borrow.Author.Tests.{ltb-true, ltb-false, leb-true, leb-false, eqb-true, eqb
 use lib.Dec.{ltb, leb, eqb}
 use lib.ListN.{length}
 use Rattle.base.specs.Bytes.{be16, u8At, bytesAt}
-use Rattle.dhcp_reply.specs.Reply.{reply}
+use Rattle.dhcp_message.specs.Message.{reply}
 use Rattle.record.proofs.Addresses.{four-bytes}
-use Rattle.dhcp_reply.proofs.ReadBack.{reply-reads-back}
+use Rattle.dhcp_message.proofs.ReadBack.{reply-reads-back}
 use Rattle.wire.specs.Rfc894.{sourceMac}
 use Rattle.record.specs.Network.{network, gatewayMac}
 use Rattle.wire.specs.Rfc768.{datagram}

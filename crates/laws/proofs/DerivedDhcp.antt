@@ -6,9 +6,9 @@ use mathlib.Core.List.{List, [], _∷_, _++_}
 use native.Mathlib.Omega.{arith}
 use lib.ListN.{length, getD, drop, replicate}
 use lib.Seq.{drop-drop}
-use Rattle.dhcp_reply.specs.Reply.{reply}
+use Rattle.dhcp_message.specs.Message.{reply}
 use Rattle.record.specs.Network.{FourBytes}
-use Rattle.dhcp_reply.proofs.ReadBack.{reply-reads-back}
+use Rattle.dhcp_message.proofs.ReadBack.{reply-reads-back}
 use Rattle.base.specs.Bytes.{be32, u8At}
 use Rattle.wire.specs.Rfc768.{datagram}
 use Rattle.record.specs.declared.network.Network.{Network}

@@ -5,7 +5,7 @@ use mathlib.Core.Logic.{_⊎_, inl, inr}
 use mathlib.Core.List.{List}
 use native.Mathlib.Omega.{arith}
 use lib.ListN.{length, drop}
-use Rattle.dhcp_reply.specs.Reply.{reply}
+use Rattle.dhcp_message.specs.Message.{reply}
 use Rattle.record.specs.Network.{FourBytes}
 use Rattle.wire.specs.Rfc791.{sourceOf}
 use Rattle.wire.specs.Rfc894.{body, sourceMac}

@@ -3,7 +3,7 @@ use Prim.Native.Nat.{ℕ}
 use mathlib.Core.Path.{_≡_, refl, subst}
 use mathlib.Core.List.{List, _++_}
 use lib.ListN.{length, drop}
-use Rattle.dhcp_reply.specs.Reply.{reply}
+use Rattle.dhcp_message.specs.Message.{reply}
 use Rattle.options.specs.Rfc2132.{walk, walkFrom}
 use Rattle.record.specs.Answer.{Meets, Outcome, paper}
 use Rattle.record.specs.Network.{network}

@@ -8,7 +8,7 @@ use native.Mathlib.Omega.{arith}
 use borrow.Author.Tests.{ltb-true, ltb-false, lt-ltb, le-ltb, eqb-true, eq-eqb, ne-eqb, not-false}
 use lib.Dec.{T, ltb, eqb}
 use lib.ListN.{length, length-drop}
-use Rattle.dhcp_reply.specs.Reply.{answering}
+use Rattle.dhcp_message.specs.Message.{answering}
 use Rattle.options.specs.Rfc2132.{Walked, typed, cut, walk}
 use Rattle.wire.specs.Rfc768.{sourcePort, targetPort, lengthField}
 use Rattle.wire.specs.Rfc791.{protocolOf, targetOf}

@@ -5,7 +5,7 @@ use mathlib.Core.Bool.{_&&_, not, cond}
 use mathlib.Core.List.{List, [], _∷_}
 use lib.Dec.{eqb, ltb}
 use lib.ListN.{length, drop}
-use Rattle.dhcp_reply.specs.Reply.{answering}
+use Rattle.dhcp_message.specs.Message.{answering}
 use Rattle.options.specs.Rfc2132.{Walked, typed, cut, walk}
 use Rattle.base.specs.Bytes.{part}
 use Rattle.wire.specs.Rfc768.{sourcePort, targetPort, lengthField}

@@ -7,7 +7,7 @@ ghost use lib.Dec.{eqb, ltb};
 ghost use Rattle.rules.specs.Rules.{decision, arpDecision, ipDecision, icmpDecision, udpDecision, dhcpDecision, typeDecision};
 ghost use Rattle.rules.specs.Same.{same as Same·same};
 ghost use Rattle.options.specs.Found.{walkedAs};
-use dhcp_reply::reply_type;
+use dhcp_message::reply_type;
 use options::Found;
 use options::message_type;
 use record::Network;

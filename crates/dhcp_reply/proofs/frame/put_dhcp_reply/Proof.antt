@@ -44,7 +44,7 @@ returns-2 c =
     let six : length (a .mac) ≡ 6 = omega (arith, start .good) in
     let six′ : length (a .dst-mac) ≡ 6 = omega (arith, start .good) in
     frame-put (a .net) (a .mac) (a .id) (a .dst-mac) (a .xid) (a .kind) four six six′ (a .out .now) _ _ _ _ _ _ (tests .if1 .left) (target .broadcast .ensures) (headed .put-headers .ensures)
-    (made .udp-header .ensures) (header .put .ensures) (message .write-reply-of .ensures) refl
+    (made .udp-header .ensures) (header .put .ensures) (message .put-reply .ensures) refl
 
 pub put-dhcp-reply-spec : {M : Type 1} → statement M
 put-dhcp-reply-spec =

@@ -9,7 +9,7 @@ use Rattle.wire.specs.Rfc2131.{operation, hardwareType, hardwareLength, hopCoun
 use Rattle.record.specs.Network.{FourBytes}
 use Rattle.record.specs.declared.network.Network.{Network}
 use Rattle.base.proofs.Lists.{all-bytes}
-use Rattle.dhcp_reply.specs.Reply.{reply}
+use Rattle.dhcp_message.specs.Message.{reply}
 
 pub record ReplyOf (p : List ℕ) (net : Network) (mac : List ℕ) (xid type : ℕ) : Type 0 where
   pub long : length p ≡ 300

@@ -1,12 +1,12 @@
 -- `reply::write_reply` meets its contract: the fixed part, then eight pieces, each right behind the one before it.
 use mathlib.Core.Path.{refl, _∙_}
 use native.Mathlib.Omega.{arith}
-use Rattle.dhcp_reply.specs.helpers.Pieces.{written}
+use Rattle.dhcp_message.specs.helpers.Pieces.{written}
 use Rattle.base.proofs.Front.{behind}
-use Rattle.dhcp_reply.proofs.Pieces.{fixed-front}
+use Rattle.dhcp_message.proofs.Pieces.{fixed-front}
 use borrow.Author.Needs.{needs}
-use Rattle.dhcp_reply.proofs.reply.write_reply.Statement.{statement}
-use Rattle.dhcp_reply.proofs.reply.write_reply.Tie as tie
+use Rattle.dhcp_message.proofs.reply.write_reply.Statement.{statement}
+use Rattle.dhcp_message.proofs.reply.write_reply.Tie as tie
 
 same-length : tie.Need-same-length
 same-length c =

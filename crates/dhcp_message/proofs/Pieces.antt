@@ -8,9 +8,9 @@ use Rattle.base.specs.Bytes.{be32}
 use Rattle.base.specs.Buffer.{put}
 use Rattle.record.specs.declared.network.Network.{Network}
 use Rattle.base.proofs.Front.{Front}
-use Rattle.dhcp_reply.specs.helpers.Pieces.{firstFields, fixedPart, values, written}
+use Rattle.dhcp_message.specs.helpers.Pieces.{firstFields, fixedPart, values, written}
 use Rattle.wire.specs.Rfc2131.{cookie}
-use Rattle.dhcp_reply.specs.Reply.{reply}
+use Rattle.dhcp_message.specs.Message.{reply}
 use Rattle.options.specs.Rfc2132.{option}
 
 -- what stands before the options, written at a buffer's front

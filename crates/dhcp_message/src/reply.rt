@@ -4,8 +4,8 @@ ghost use Prim.Native.Nat.{_≤_};
 ghost use lib.ListN.{length};
 ghost use Rattle.record.specs.Answer.{Wrote};
 ghost use Rattle.base.specs.Buffer.{put as Buffer·put, putIfFits};
-ghost use Rattle.dhcp_reply.specs.Reply.{answering, buildReply, reply as Reply·reply};
-ghost use Rattle.dhcp_reply.specs.helpers.Pieces.{firstFields, fixedPart, written, values as Pieces·values};
+ghost use Rattle.dhcp_message.specs.Message.{answering, buildReply, reply as Message·reply};
+ghost use Rattle.dhcp_message.specs.helpers.Pieces.{firstFields, fixedPart, written, values as Pieces·values};
 ghost use Rattle.options.specs.Rfc2132.{option};
 use base::put;
 use record::Network;
@@ -76,10 +76,20 @@ pub fn build_reply(net: Network, mac: [u8; 6], xid: u32, kind: u8, out: &mut [u8
     Verdict::Reply(REPLY_LENGTH)
 }
 
+// The same, with nothing to say: where it does not fit, nothing is written.
+pub fn put_reply(net: Network, mac: [u8; 6], xid: u32, kind: u8, out: &mut [u8])
+    ensures { λ _. ⌜ now (out .exit) ≡ putIfFits 0 (Message·reply net mac xid kind) (now (out .entry)) ⌝ }
+{
+    if out.len() < REPLY_LENGTH {
+        return;
+    }
+    write_reply_of(net, mac, xid, kind, out);
+}
+
 // The same where there is room.
-pub fn write_reply_of(net: Network, mac: [u8; 6], xid: u32, kind: u8, out: &mut [u8])
+fn write_reply_of(net: Network, mac: [u8; 6], xid: u32, kind: u8, out: &mut [u8])
     requires { ⌜ 300 ≤ length (now out) ⌝ }
-    ensures { λ _. ⌜ now (out .exit) ≡ Buffer·put 0 (Reply·reply net mac xid kind) (now (out .entry)) ⌝ }
+    ensures { λ _. ⌜ now (out .exit) ≡ Buffer·put 0 (Message·reply net mac xid kind) (now (out .entry)) ⌝ }
 {
     let guest = net.guest;
     let gateway = net.gateway;

@@ -3,8 +3,8 @@ use mathlib.Core.Path.{_∙_}
 use native.Mathlib.Omega.{arith}
 use Rattle.base.proofs.Lists.{all-bytes}
 use borrow.Author.Needs.{needs}
-use Rattle.dhcp_reply.proofs.reply.put_row.Statement.{statement}
-use Rattle.dhcp_reply.proofs.reply.put_row.Tie as tie
+use Rattle.dhcp_message.proofs.reply.put_row.Statement.{statement}
+use Rattle.dhcp_message.proofs.reply.put_row.Tie as tie
 
 returns : tie.Need-returns
 returns c = (c .before .before .put .ensures ∙ rw (all-bytes (c .before .before .before .before .before .before .args .t4) 4 (omega arith)), omega arith)

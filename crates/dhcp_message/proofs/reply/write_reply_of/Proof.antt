@@ -3,11 +3,11 @@ use Prim.Native.Nat.{ℕ}
 use mathlib.Core.List.{List}
 use mathlib.Core.Path.{ap, ap₂, _∙_}
 use Rattle.base.specs.Buffer.{put}
-use Rattle.dhcp_reply.proofs.Pieces.{reply-pieces}
-use Rattle.dhcp_reply.specs.helpers.Pieces.{written}
+use Rattle.dhcp_message.proofs.Pieces.{reply-pieces}
+use Rattle.dhcp_message.specs.helpers.Pieces.{written}
 use borrow.Author.Needs.{needs}
-use Rattle.dhcp_reply.proofs.reply.write_reply_of.Statement.{statement}
-use Rattle.dhcp_reply.proofs.reply.write_reply_of.Tie as tie
+use Rattle.dhcp_message.proofs.reply.write_reply_of.Statement.{statement}
+use Rattle.dhcp_message.proofs.reply.write_reply_of.Tie as tie
 
 returns : tie.Need-returns
 returns c =

@@ -1,7 +1,7 @@
 -- `reply::reply_type` meets its contract, test by test.
 use borrow.Author.Tests.{eq-eqb, ne-eqb}
-use Rattle.dhcp_reply.proofs.reply.reply_type.Statement.{statement}
-use Rattle.dhcp_reply.proofs.reply.reply_type.Tie as tie
+use Rattle.dhcp_message.proofs.reply.reply_type.Statement.{statement}
+use Rattle.dhcp_message.proofs.reply.reply_type.Tie as tie
 
 returns : tie.Need-returns
 returns c = simp (eq-eqb _ _ (c .if1 .taken))

@@ -1,11 +1,11 @@
 -- `reply::build_reply` meets its contract: with room the reply stands at the buffer's front.
 use mathlib.Core.Path.{_∙_}
 use Rattle.base.proofs.Lists.{put-front}
-use Rattle.dhcp_reply.specs.Reply.{reply}
+use Rattle.dhcp_message.specs.Message.{reply}
 use Rattle.record.proofs.Fitting.{does-not-fit, does-fit}
 use borrow.Author.Needs.{needs}
-use Rattle.dhcp_reply.proofs.reply.build_reply.Statement.{statement}
-use Rattle.dhcp_reply.proofs.reply.build_reply.Tie as tie
+use Rattle.dhcp_message.proofs.reply.build_reply.Statement.{statement}
+use Rattle.dhcp_message.proofs.reply.build_reply.Tie as tie
 
 returns : tie.Need-returns
 returns c = does-not-fit 300 _ _ _ (c .if1 .taken)

@@ -2,10 +2,10 @@
 use mathlib.Core.Path.{refl}
 use native.Mathlib.Omega.{arith}
 use Rattle.base.proofs.Front.{nothing-yet, behind, behind-as}
-use Rattle.dhcp_reply.specs.helpers.Pieces.{fixedPart}
+use Rattle.dhcp_message.specs.helpers.Pieces.{fixedPart}
 use borrow.Author.Needs.{needs}
-use Rattle.dhcp_reply.proofs.reply.put_fixed_part.Statement.{statement}
-use Rattle.dhcp_reply.proofs.reply.put_fixed_part.Tie as tie
+use Rattle.dhcp_message.proofs.reply.put_fixed_part.Statement.{statement}
+use Rattle.dhcp_message.proofs.reply.put_fixed_part.Tie as tie
 
 returns : tie.Need-returns
 unfolding fixedPart

@@ -7,7 +7,7 @@ use Rattle.record.specs.Answer.{Wrote}
 use Rattle.record.specs.declared.answer.Verdict.{Verdict}
 use Rattle.record.specs.declared.network.Network.{Network}
 use Rattle.record.proofs.OneAnswer.{one-writing}
-use Rattle.dhcp_reply.specs.Reply.{buildReply}
+use Rattle.dhcp_message.specs.Message.{buildReply}
 
 pub build-reply-answers-once : (before after after′ : List ℕ) (v v′ : Verdict) (net : Network) (mac : List ℕ) (xid type : ℕ)
     → Wrote (buildReply net mac xid type (length before)) before after v

@@ -2,8 +2,8 @@
 use native.Mathlib.Omega.{arith}
 use Rattle.base.proofs.Lists.{all-bytes}
 use borrow.Author.Needs.{needs}
-use Rattle.dhcp_reply.proofs.reply.first_fields.Statement.{statement}
-use Rattle.dhcp_reply.proofs.reply.first_fields.Tie as tie
+use Rattle.dhcp_message.proofs.reply.first_fields.Statement.{statement}
+use Rattle.dhcp_message.proofs.reply.first_fields.Tie as tie
 
 returns : tie.Need-returns
 returns c =

@@ -8,9 +8,9 @@ use Rattle.record.specs.declared.answer.Verdict.{Verdict}
 use Rattle.record.specs.declared.network.Network.{Network}
 use Rattle.record.proofs.Fitting.{on-no-room, short-of-room, on-written, with-room, fits-in-buffer}
 use Rattle.record.proofs.InBuffer.{InBuffer}
-use Rattle.dhcp_reply.specs.Reply.{buildReply, reply}
+use Rattle.dhcp_message.specs.Message.{buildReply, reply}
 use Rattle.record.specs.Network.{FourBytes}
-use Rattle.dhcp_reply.proofs.ReadBack.{reply-reads-back}
+use Rattle.dhcp_message.proofs.ReadBack.{reply-reads-back}
 
 module _ (net : Network) (mac : List ℕ) (xid type : ℕ) (before after : List ℕ) (v : Verdict)
     (w : Wrote (buildReply net mac xid type (length before)) before after v) where

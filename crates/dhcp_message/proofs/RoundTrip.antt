@@ -5,7 +5,7 @@ use mathlib.Core.List.{List}
 use lib.ListN.{length}
 use Rattle.record.specs.declared.network.Network.{Network}
 use Rattle.base.proofs.Lists.{all-bytes}
-use Rattle.dhcp_reply.specs.Reply.{reply}
+use Rattle.dhcp_message.specs.Message.{reply}
 use Rattle.options.specs.Rfc2132.{typed, walk, walkFrom}
 use Rattle.record.specs.Network.{FourBytes}
 
