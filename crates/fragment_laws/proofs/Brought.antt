@@ -12,17 +12,18 @@ use Rattle.bitmap.specs.Bitmap.{bit, count, having}
 use Rattle.wire.specs.Rfc894.{body}
 use Rattle.fragments.specs.Promises.{Effect, Takes}
 use Rattle.fragment_packets.specs.Packets.{packetOf}
-use Rattle.fragments.specs.Rules.{Outcome, blocksOf, firstBlock, stopBlock, sameDatagram, isHeld, knownEnd, wrongEnd, endWith, ruling, settled, outcomeOf}
+use Rattle.fragments.specs.Outcomes.{Outcome, settled, outcomeOf}
+use Rattle.fragment_rules.specs.Rules.{blocksOf, firstBlock, stopBlock, sameDatagram, isHeld, knownEnd, wrongEnd, endWith, ruling}
 use Rattle.fragment_packets.specs.Packets.{endOf}
 use Rattle.fragments.specs.Answer as Answer
 use Rattle.fragment_packets.specs.declared.packet.Datagram.{Datagram}
-use Rattle.fragments.specs.declared.answer.End.{End}
-use Rattle.fragments.specs.declared.answer.End.the-variants.{Unknown, At}
-use Rattle.fragments.specs.declared.answer.State.{State}
-use Rattle.fragments.specs.declared.answer.State.the-variants.{Empty, Filling, Complete}
+use Rattle.fragment_rules.specs.declared.answer.End.{End}
+use Rattle.fragment_rules.specs.declared.answer.End.the-variants.{Unknown, At}
+use Rattle.fragment_rules.specs.declared.answer.State.{State}
+use Rattle.fragment_rules.specs.declared.answer.State.the-variants.{Empty, Filling, Complete}
 use Rattle.fragment_packets.specs.declared.packet.Fragment.{Fragment}
-use Rattle.fragments.specs.declared.ruling.Ruling.{Ruling}
-use Rattle.fragments.specs.declared.ruling.Ruling.the-variants as Ruling
+use Rattle.fragment_rules.specs.declared.ruling.Ruling.{Ruling}
+use Rattle.fragment_rules.specs.declared.ruling.Ruling.the-variants as Ruling
 use Rattle.fragment_packets.proofs.Fitting.{at-block, part-is, ends-at-block}
 use Rattle.fragments.proofs.Ruled.{Stored, stored}
 use Rattle.fragment_laws.specs.Calls.{Store, Sized, Vacant, Call, after, Runs, asks, leaves}

@@ -11,14 +11,15 @@ use Rattle.bitmap.specs.Bitmap.{bit, count}
 use Rattle.wire.specs.Rfc894.{body}
 use Rattle.fragments.specs.Answer.{stored, complete, saidFor}
 use Rattle.fragments.specs.Promises.{Effect, Takes}
-use Rattle.fragments.specs.Rules.{Outcome, ofSize, blocksOf, firstBlock, stopBlock, sameDatagram, isHeld, knownEnd, overlaps, wrongEnd, endWith, partRuling, packetRuling, ruling, settled, outcomeOf}
+use Rattle.fragments.specs.Outcomes.{Outcome, settled, outcomeOf}
+use Rattle.fragment_rules.specs.Rules.{ofSize, blocksOf, firstBlock, stopBlock, sameDatagram, isHeld, knownEnd, overlaps, wrongEnd, endWith, partRuling, packetRuling, ruling}
 use Rattle.fragment_packets.specs.Packets.{endOf}
 use Rattle.fragment_packets.specs.declared.packet.Datagram.{Datagram}
-use Rattle.fragments.specs.declared.answer.End.{End}
-use Rattle.fragments.specs.declared.answer.End.the-variants.{Unknown, At}
-use Rattle.fragments.specs.declared.answer.State.the-variants.{Filling, Complete}
-use Rattle.fragments.specs.declared.ruling.Ruling.{Ruling}
-use Rattle.fragments.specs.declared.ruling.Ruling.the-variants as Ruling
+use Rattle.fragment_rules.specs.declared.answer.End.{End}
+use Rattle.fragment_rules.specs.declared.answer.End.the-variants.{Unknown, At}
+use Rattle.fragment_rules.specs.declared.answer.State.the-variants.{Filling, Complete}
+use Rattle.fragment_rules.specs.declared.ruling.Ruling.{Ruling}
+use Rattle.fragment_rules.specs.declared.ruling.Ruling.the-variants as Ruling
 use Rattle.fragment_packets.proofs.Fitting.{at-block, part-fits}
 use Rattle.fragment_laws.specs.Calls.{Store, Sized, Call, after}
 use Rattle.fragment_laws.specs.Trains.{All, Some, EachTwo, piece, Fit, Covers, Apart, lasts}

@@ -9,14 +9,15 @@ use lib.ListN.{length}
 use Rattle.bitmap.specs.Bitmap.{bit, count}
 use Rattle.fragments.specs.Answer.{stored, complete, refused, saidFor}
 use Rattle.fragments.specs.Promises.{Untouched, Effect, Takes}
-use Rattle.fragments.specs.Rules.{Outcome, blocksOf, settled, ruling, outcomeOf}
+use Rattle.fragments.specs.Outcomes.{Outcome, settled, outcomeOf}
+use Rattle.fragment_rules.specs.Rules.{blocksOf, ruling}
 use Rattle.fragment_packets.specs.declared.packet.Datagram.{Datagram}
-use Rattle.fragments.specs.declared.answer.End.{End}
-use Rattle.fragments.specs.declared.answer.End.the-variants.{Unknown, At}
-use Rattle.fragments.specs.declared.answer.State.the-variants.{Filling, Complete}
+use Rattle.fragment_rules.specs.declared.answer.End.{End}
+use Rattle.fragment_rules.specs.declared.answer.End.the-variants.{Unknown, At}
+use Rattle.fragment_rules.specs.declared.answer.State.the-variants.{Filling, Complete}
 use Rattle.fragment_packets.specs.declared.packet.Fragment.{Fragment}
-use Rattle.fragments.specs.declared.ruling.Ruling.{Ruling}
-use Rattle.fragments.specs.declared.ruling.Ruling.the-variants as Ruling
+use Rattle.fragment_rules.specs.declared.ruling.Ruling.{Ruling}
+use Rattle.fragment_rules.specs.declared.ruling.Ruling.the-variants as Ruling
 use Rattle.fragments.proofs.Ruled as Ruled
 use Rattle.fragment_laws.specs.Calls.{Store, Asked, taking, Call, after, Promised, Keeps}
 use Rattle.fragment_laws.specs.Trains.{PassesBy}

@@ -9,7 +9,7 @@ use lib.Pow.{shr-shr}
 use lib.Seq.{ext-getD}
 use Rattle.bitmap.specs.Bitmap.{bit}
 use Rattle.fragments.proofs.OneAnswer.{one-taken, one-released, one-effect, as-many-bits}
-use Rattle.fragments.specs.Rules.{ruling}
+use Rattle.fragment_rules.specs.Rules.{ruling}
 use Rattle.fragments.specs.declared.answer.Taken.{Taken}
 use Rattle.fragment_laws.specs.Calls.{Store, Asked, taking, releasing, Of64Bits, Promised}
 

@@ -10,9 +10,9 @@ use lib.Seq.{getD-take, length-take-le}
 use Rattle.bitmap.specs.Bitmap.{bit}
 use Rattle.fragments.specs.Handing.{storedLength, storedPayload}
 use Rattle.fragments.specs.Promises.{Takes}
-use Rattle.fragments.specs.Rules.{isHeld, knownEnd}
+use Rattle.fragment_rules.specs.Rules.{isHeld, knownEnd}
 use Rattle.fragment_packets.specs.declared.packet.Datagram.{Datagram}
-use Rattle.fragments.specs.declared.answer.State.the-variants.{Complete}
+use Rattle.fragment_rules.specs.declared.answer.State.the-variants.{Complete}
 use Rattle.fragment_packets.proofs.Fitting.{part-fits}
 use Rattle.fragment_laws.specs.Calls.{Store, Vacant, taking, Call, after, Runs, leaves, asks}
 use Rattle.fragment_laws.specs.Trains.{Permuted, All, piece, Fit, Covers, byteFor, Apart, Train, takings, StoredThenComplete, Among, none, its-own, passing, Arrived, EveryOrder}

@@ -10,12 +10,13 @@ use lib.ListN.{length, getD, drop, replicate, length-replicate}
 use Rattle.bitmap.specs.Bitmap.{bit}
 use Rattle.fragments.specs.Answer.{complete, released, saidFor}
 use Rattle.fragments.specs.Handing.{siteOf, storedPayload, payloadAt, payloadOf}
-use Rattle.fragments.specs.Rules.{ofSize, isHeld, partRuling, packetRuling, ruling, outcomeOf}
-use Rattle.fragments.specs.declared.answer.Answer.{Answer}
-use Rattle.fragments.specs.declared.answer.Answer.the-variants as Answer
+use Rattle.fragment_rules.specs.Rules.{ofSize, isHeld, partRuling, packetRuling, ruling}
+use Rattle.fragments.specs.Outcomes.{outcomeOf}
+use Rattle.fragment_rules.specs.declared.answer.Answer.{Answer}
+use Rattle.fragment_rules.specs.declared.answer.Answer.the-variants as Answer
 use Rattle.fragment_packets.specs.declared.packet.Datagram.{Datagram}
-use Rattle.fragments.specs.declared.answer.State.{State}
-use Rattle.fragments.specs.declared.answer.State.the-variants.{Complete}
+use Rattle.fragment_rules.specs.declared.answer.State.{State}
+use Rattle.fragment_rules.specs.declared.answer.State.the-variants.{Complete}
 use Rattle.fragment_laws.specs.Calls.{Store, Sized, Vacant, taking, releasing, Call, after, Promised, Keeps, Runs, asks}
 use Rattle.fragment_laws.specs.Trains.{All, takings, Stands}
 use Rattle.fragments.proofs.OneAnswer.{said-one-to-one}

@@ -12,9 +12,9 @@ use Rattle.fragment_packets.proofs.Fitting.{Fits, part-fits}
 use Rattle.fragment_packets.specs.Packets.{endOf}
 use Rattle.fragments.proofs.Storing.{marked}
 use Rattle.fragments.specs.Promises.{Effect}
-use Rattle.fragments.specs.Rules.{firstBlock, stopBlock}
-use Rattle.fragments.specs.declared.answer.End.{End}
-use Rattle.fragments.specs.declared.ruling.Ruling.the-variants as Ruling
+use Rattle.fragment_rules.specs.Rules.{firstBlock, stopBlock}
+use Rattle.fragment_rules.specs.declared.answer.End.{End}
+use Rattle.fragment_rules.specs.declared.ruling.Ruling.the-variants as Ruling
 use Rattle.fragment_laws.specs.Calls.{Store, Sized, Call, after}
 use Rattle.fragment_laws.specs.Trains.{piece, Fit, Covers, byteFor}
 use Rattle.fragment_laws.proofs.Storing.{byte-put, byte-beside}

@@ -6,8 +6,8 @@ use lib.ListN.{length, getD}
 use Rattle.base.specs.Runs as every
 use Rattle.bitmap.specs.Bitmap.{bit}
 use Rattle.fragments.specs.Promises.{Takes, Releases}
-use Rattle.fragments.specs.declared.answer.State.{State}
-use Rattle.fragments.specs.declared.answer.State.the-variants.{Empty}
+use Rattle.fragment_rules.specs.declared.answer.State.{State}
+use Rattle.fragment_rules.specs.declared.answer.State.the-variants.{Empty}
 use Rattle.fragments.specs.declared.answer.Taken.{Taken}
 
 -- A guest's store: its state, its payload bytes and its bitmap.

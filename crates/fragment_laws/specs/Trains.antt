@@ -15,7 +15,7 @@ use Rattle.fragments.specs.Handing.{storedPayload}
 use Rattle.fragment_packets.specs.Packets.{packetOf, fragmentOf}
 use Rattle.fragment_packets.specs.Packets.{endOf}
 use Rattle.fragment_packets.specs.declared.packet.Datagram.{Datagram}
-use Rattle.fragments.specs.declared.answer.State.the-variants.{Complete}
+use Rattle.fragment_rules.specs.declared.answer.State.the-variants.{Complete}
 use Rattle.fragment_packets.specs.declared.packet.Fragment.{Fragment}
 use Rattle.fragment_packets.specs.declared.packet.Packet.the-variants.{Part}
 use Rattle.fragment_laws.specs.Calls.{Store, Sized, Vacant, Call, Asked, taking, after, Runs, asks, leaves}

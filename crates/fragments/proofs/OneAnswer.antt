@@ -8,12 +8,12 @@ use lib.ListN.{length}
 use Rattle.bitmap.specs.Bitmap.{bit}
 use Rattle.fragments.specs.Answer.{Said, passed, stored, complete, released, refused, saidFor}
 use Rattle.fragments.specs.Promises.{Effect, Does, Releases}
-use Rattle.fragments.specs.declared.answer.Answer.{Answer}
-use Rattle.fragments.specs.declared.answer.Answer.the-variants.{Passed, Stored, Complete, Released, Unfit, Held, Overlap, WrongEnd}
-use Rattle.fragments.specs.declared.answer.State.{State}
+use Rattle.fragment_rules.specs.declared.answer.Answer.{Answer}
+use Rattle.fragment_rules.specs.declared.answer.Answer.the-variants.{Passed, Stored, Complete, Released, Unfit, Held, Overlap, WrongEnd}
+use Rattle.fragment_rules.specs.declared.answer.State.{State}
 use Rattle.fragments.specs.declared.answer.Taken.{Taken}
-use Rattle.fragments.specs.declared.ruling.Ruling.{Ruling}
-use Rattle.fragments.specs.declared.ruling.Ruling.the-variants.{Refuse, Pass, Write}
+use Rattle.fragment_rules.specs.declared.ruling.Ruling.{Ruling}
+use Rattle.fragment_rules.specs.declared.ruling.Ruling.the-variants.{Refuse, Pass, Write}
 
 -- the answer that the document says so
 answerOf : Said → Answer

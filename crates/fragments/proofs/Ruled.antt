@@ -9,14 +9,14 @@ use lib.ListN.{length}
 use Rattle.base.proofs.Choice.{second-arm}
 use Rattle.bitmap.specs.Bitmap.{bit}
 use Rattle.fragment_packets.specs.Packets.{packetOf}
-use Rattle.fragments.specs.Rules.{ofSize, isHeld, overlaps, wrongEnd, knownEnd, endWith, partRuling, packetRuling, ruling}
-use Rattle.fragments.specs.declared.answer.Answer.{Answer}
-use Rattle.fragments.specs.declared.answer.End.{End}
-use Rattle.fragments.specs.declared.answer.State.{State}
+use Rattle.fragment_rules.specs.Rules.{ofSize, isHeld, overlaps, wrongEnd, knownEnd, endWith, partRuling, packetRuling, ruling}
+use Rattle.fragment_rules.specs.declared.answer.Answer.{Answer}
+use Rattle.fragment_rules.specs.declared.answer.End.{End}
+use Rattle.fragment_rules.specs.declared.answer.State.{State}
 use Rattle.fragment_packets.specs.declared.packet.Fragment.{Fragment}
 use Rattle.fragment_packets.specs.declared.packet.Packet.{Packet}
 use Rattle.fragment_packets.specs.declared.packet.Packet.the-variants.{Unfit, Whole, Part}
-use Rattle.fragments.specs.declared.ruling.Ruling.the-variants.{Refuse, Write}
+use Rattle.fragment_rules.specs.declared.ruling.Ruling.the-variants.{Refuse, Write}
 
 -- a refusal is no ruling to write
 no-write : {answer : Answer} {f : Fragment} {end : End} → Refuse answer ≡ Write f end → ⊥

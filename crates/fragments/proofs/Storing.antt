@@ -11,7 +11,7 @@ use lib.Seq.{length-take-le}
 use Rattle.bitmap.specs.Bitmap.{bit, having, Marked}
 use Rattle.base.specs.Bytes.{part}
 use Rattle.base.specs.Buffer.{put, putIfFits}
-use Rattle.fragments.specs.Rules.{ofSize, blocksOf, firstBlock, stopBlock}
+use Rattle.fragment_rules.specs.Rules.{ofSize, blocksOf, firstBlock, stopBlock}
 use Rattle.fragment_packets.specs.Packets.{endOf}
 use Rattle.fragment_packets.specs.declared.packet.Fragment.{Fragment}
 

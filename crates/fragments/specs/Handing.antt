@@ -8,12 +8,12 @@ use Rattle.base.specs.Bytes.{part}
 use Rattle.fragment_packets.specs.Packets.{packetOf}
 use Rattle.fragment_packets.specs.declared.packet.Packet.{Packet}
 use Rattle.fragment_packets.specs.declared.packet.Packet.the-variants.{Unfit, Whole, Part}
-use Rattle.fragments.specs.declared.answer.Answer.{Answer}
-use Rattle.fragments.specs.declared.answer.Answer.the-variants as Answer
+use Rattle.fragment_rules.specs.declared.answer.Answer.{Answer}
+use Rattle.fragment_rules.specs.declared.answer.Answer.the-variants as Answer
 use Rattle.fragments.specs.declared.answer.Site.{Site}
 use Rattle.fragments.specs.declared.answer.Site.the-variants as Site
-use Rattle.fragments.specs.declared.answer.State.{State}
-use Rattle.fragments.specs.declared.answer.State.the-variants.{Empty, Filling, Complete}
+use Rattle.fragment_rules.specs.declared.answer.State.{State}
+use Rattle.fragment_rules.specs.declared.answer.State.the-variants.{Empty, Filling, Complete}
 
 -- where it lies: passed hands out a part of the frame, complete a part of the store, and every other answer nothing
 unfoldable pub siteOf : Answer → Site

@@ -1,5 +1,5 @@
 pub mod Answer
-pub mod Rules
+pub mod Outcomes
 pub mod Promises
 pub mod Handing
 pub mod helpers

@@ -8,12 +8,13 @@ use Rattle.base.specs.Bytes.{part}
 use Rattle.base.specs.Buffer.{put}
 use mathlib.Core.Bool.{cond}
 use Rattle.fragments.specs.Answer.{released, refused, saidFor}
-use Rattle.fragments.specs.Rules.{ofSize, ruling, outcomeOf, firstBlock, stopBlock}
-use Rattle.fragments.specs.declared.answer.State.{State}
-use Rattle.fragments.specs.declared.answer.State.the-variants.{Empty}
+use Rattle.fragment_rules.specs.Rules.{ofSize, ruling, firstBlock, stopBlock}
+use Rattle.fragments.specs.Outcomes.{outcomeOf}
+use Rattle.fragment_rules.specs.declared.answer.State.{State}
+use Rattle.fragment_rules.specs.declared.answer.State.the-variants.{Empty}
 use Rattle.fragments.specs.declared.answer.Taken.{Taken}
-use Rattle.fragments.specs.declared.ruling.Ruling.{Ruling}
-use Rattle.fragments.specs.declared.ruling.Ruling.the-variants.{Refuse, Pass, Write}
+use Rattle.fragment_rules.specs.declared.ruling.Ruling.{Ruling}
+use Rattle.fragment_rules.specs.declared.ruling.Ruling.the-variants.{Refuse, Pass, Write}
 
 -- the store's bytes and bits are as they were
 pub record Untouched (bytes bits bytes′ bits′ : List ℕ) : Type 0 where

@@ -3,12 +3,12 @@ ghost use mathlib.Core.Path.{_≡_};
 ghost use Prim.Native.Nat.{_≤_};
 ghost use Rattle.fragment_packets.specs.Packets.{packetOf};
 ghost use Rattle.fragments.specs.Handing.{siteOf, wholePayload, storedLength, storedPayload, payloadOf};
-use crate::answer::Answer;
 use crate::answer::Site;
-use crate::answer::State;
 use crate::answer::Taken;
 use fragment_packets::Packet;
 use fragment_packets::read;
+use fragment_rules::Answer;
+use fragment_rules::State;
 
 // The payload, as a part of the frame that passed or of the store that is complete; for every other
 // answer an empty part. It goes by the answer: a host that takes other frames before it uses the payload

@@ -5,15 +5,14 @@
 // `release`, whatever it holds.
 mod answer;
 mod handing;
-mod ruling;
 mod store;
 
-pub use answer::Answer;
-pub use answer::End;
 pub use answer::Site;
-pub use answer::State;
 pub use answer::Taken;
 pub use fragment_packets::Datagram;
+pub use fragment_rules::Answer;
+pub use fragment_rules::End;
+pub use fragment_rules::State;
 pub use handing::payload;
 pub use handing::site_of;
 pub use handing::stored_length;

@@ -3,22 +3,22 @@ ghost use mathlib.Core.Path.{_≡_};
 ghost use Prim.Native.Nat.{_+_, _≤_};
 ghost use lib.ListN.{length};
 ghost use Rattle.bitmap.specs.Bitmap.{bit, having};
-ghost use Rattle.fragments.specs.Rules.{firstBlock, stopBlock};
+ghost use Rattle.fragment_rules.specs.Rules.{firstBlock, stopBlock};
 ghost use Rattle.fragment_packets.specs.Packets.{endOf};
 ghost use Rattle.fragments.specs.helpers.Settling.{Settles};
 ghost use Rattle.fragments.specs.Promises.{Takes, Effect, Releases};
-use crate::answer::Answer;
-use crate::answer::End;
-use crate::answer::State;
 use crate::answer::Taken;
-use crate::ruling::BLOCK;
-use crate::ruling::Ruling;
-use crate::ruling::blocks_of;
-use crate::ruling::is_of_size;
-use crate::ruling::rule;
 use base::put;
 use fragment_packets::Datagram;
 use fragment_packets::Fragment;
+use fragment_rules::Answer;
+use fragment_rules::BLOCK;
+use fragment_rules::End;
+use fragment_rules::Ruling;
+use fragment_rules::State;
+use fragment_rules::blocks_of;
+use fragment_rules::is_of_size;
+use fragment_rules::rule;
 
 // Takes a guest's frame into its store.
 pub fn take(state: State, frame: &[u8], bytes: &mut [u8], bits: &mut [u64]) -> Taken
@@ -47,7 +47,11 @@ fn write(fragment: Fragment, end: End, frame: &[u8], bytes: &mut [u8], bits: &mu
     let stop = start + fragment.length;
     put(bytes, fragment.offset, &frame[start..stop]);
     let first = fragment.offset / BLOCK;
-    bitmap::mark(bits, first, blocks_of(fragment.offset + fragment.length));
+    bitmap::mark(
+        bits,
+        first,
+        blocks_of((fragment.offset + fragment.length) as u32),
+    );
     settle(fragment.datagram, end, bits)
 }
 
@@ -57,7 +61,7 @@ fn settle(datagram: Datagram, end: End, bits: &[u64]) -> Taken
 {
     match end {
         End::At(known) => {
-            let blocks = blocks_of(known as usize);
+            let blocks = blocks_of(known as u32);
             if bitmap::count(bits, 0, blocks) == blocks {
                 return Taken {
                     answer: Answer::Complete,

@@ -6,7 +6,7 @@ use lib.ListN.{length}
 use Rattle.bitmap.specs.Bitmap.{bit}
 use mathlib.Core.Bool.{cond}
 use Rattle.fragments.specs.Answer.{saidFor}
-use Rattle.fragments.specs.Rules.{ruling}
+use Rattle.fragment_rules.specs.Rules.{ruling}
 use Rattle.fragments.specs.declared.answer.Taken.{Taken}
 use Rattle.host.specs.Reassembly.{Took, Freed}
 use Rattle.fragments.proofs.OneAnswer.{one-taken, one-released, one-effect}

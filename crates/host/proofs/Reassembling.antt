@@ -5,7 +5,7 @@ use mathlib.Core.Path.{_≡_, ap, _∙_, subst}
 use lib.ListN.{length, getD}
 use Rattle.base.specs.Bytes.{part}
 use Rattle.fragments.specs.Promises.{Takes, Releases}
-use Rattle.fragments.specs.declared.answer.State.{State}
+use Rattle.fragment_rules.specs.declared.answer.State.{State}
 use Rattle.fragments.specs.declared.answer.Taken.{Taken}
 use Rattle.host.specs.Reassembly.{Took, Freed}
 use Rattle.store_words.proofs.Changing.{read-as, released-as}

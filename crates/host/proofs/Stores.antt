@@ -5,8 +5,8 @@ use mathlib.Core.List.{List, [], _∷_}
 use mathlib.Core.Path.{_≡_, ap, subst, _∙_}
 use lib.ListN.{length, replicate}
 use Rattle.fragments.specs.Answer.{released, saidFor}
-use Rattle.fragments.specs.Rules.{ofSize, ruling}
-use Rattle.fragments.specs.declared.answer.State.the-variants.{Empty}
+use Rattle.fragment_rules.specs.Rules.{ofSize, ruling}
+use Rattle.fragment_rules.specs.declared.answer.State.the-variants.{Empty}
 use Rattle.host.specs.Reassembly.{Took, Freed}
 use Rattle.store_words.proofs.Changing.{leaves-alone}
 use Rattle.store_words.proofs.Numbers.{low-number}

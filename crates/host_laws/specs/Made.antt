@@ -8,7 +8,7 @@ use Rattle.fragment_laws.specs.Calls.{Store, Asked, taking, releasing, Of64Bits
 use Rattle.fragment_laws.specs.Trains.{All, Covers, byteFor}
 use Rattle.fragments.specs.Handing.{storedPayload}
 use Rattle.fragment_packets.specs.declared.packet.Datagram.{Datagram}
-use Rattle.fragments.specs.declared.answer.State.the-variants.{Complete}
+use Rattle.fragment_rules.specs.declared.answer.State.the-variants.{Complete}
 use Rattle.host.specs.Reassembly.{Took, Freed}
 use Rattle.store_words.specs.Words.{stateOf}
 

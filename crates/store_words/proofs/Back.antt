@@ -4,9 +4,9 @@ use mathlib.Core.List.{[], _∷_}
 use mathlib.Core.Path.{_≡_, refl, ap}
 use native.Mathlib.Omega.{arith}
 use Rattle.fragment_packets.specs.declared.packet.Datagram.{Datagram}
-use Rattle.fragments.specs.declared.answer.End.the-variants.{Unknown, At}
-use Rattle.fragments.specs.declared.answer.State.{State}
-use Rattle.fragments.specs.declared.answer.State.the-variants.{Empty, Filling, Complete}
+use Rattle.fragment_rules.specs.declared.answer.End.the-variants.{Unknown, At}
+use Rattle.fragment_rules.specs.declared.answer.State.{State}
+use Rattle.fragment_rules.specs.declared.answer.State.the-variants.{Empty, Filling, Complete}
 use Rattle.store_words.specs.Words.{datagramIn, endIn, stateOf, laid, fillingWords, wordsOf}
 use Rattle.store_words.specs.helpers.Range.{NameInRange, InRange}
 

@@ -9,14 +9,15 @@ use Rattle.bitmap.specs.Bitmap.{count}
 use Rattle.fragment_packets.specs.declared.packet.Datagram.{Datagram}
 use Rattle.fragments.specs.Answer.{stored, complete, released, refused, saidFor}
 use Rattle.fragments.specs.Promises.{Untouched, Does, Releases}
-use Rattle.fragments.specs.Rules.{Outcome, blocksOf, ofSize, outcomeOf, settled}
-use Rattle.fragments.specs.declared.answer.End.{End}
-use Rattle.fragments.specs.declared.answer.End.the-variants.{Unknown, At}
-use Rattle.fragments.specs.declared.answer.State.{State}
-use Rattle.fragments.specs.declared.answer.State.the-variants.{Empty, Filling, Complete}
+use Rattle.fragments.specs.Outcomes.{Outcome, outcomeOf, settled}
+use Rattle.fragment_rules.specs.Rules.{blocksOf, ofSize}
+use Rattle.fragment_rules.specs.declared.answer.End.{End}
+use Rattle.fragment_rules.specs.declared.answer.End.the-variants.{Unknown, At}
+use Rattle.fragment_rules.specs.declared.answer.State.{State}
+use Rattle.fragment_rules.specs.declared.answer.State.the-variants.{Empty, Filling, Complete}
 use Rattle.fragments.specs.declared.answer.Taken.{Taken}
-use Rattle.fragments.specs.declared.ruling.Ruling.{Ruling}
-use Rattle.fragments.specs.declared.ruling.Ruling.the-variants.{Refuse, Pass, Write}
+use Rattle.fragment_rules.specs.declared.ruling.Ruling.{Ruling}
+use Rattle.fragment_rules.specs.declared.ruling.Ruling.the-variants.{Refuse, Pass, Write}
 use Rattle.store_words.specs.Reports.{changes}
 
 -- a fragment that is written gets stored or complete

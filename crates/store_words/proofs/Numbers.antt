@@ -5,8 +5,8 @@ use mathlib.Core.Path.{_≡_, refl, ap, sym, _∙_}
 use native.Mathlib.Omega.{arith}
 use lib.Dec.{eqb}
 use Rattle.fragments.specs.Answer.{saidFor}
-use Rattle.fragments.specs.declared.answer.Answer.{Answer}
-use Rattle.fragments.specs.declared.answer.Answer.the-variants.{Passed, Stored, Complete, Released, Unfit, Held, Overlap, WrongEnd}
+use Rattle.fragment_rules.specs.declared.answer.Answer.{Answer}
+use Rattle.fragment_rules.specs.declared.answer.Answer.the-variants.{Passed, Stored, Complete, Released, Unfit, Held, Overlap, WrongEnd}
 use Rattle.store_words.specs.Reports.{numberOf, changes}
 
 -- the answer, back from its number

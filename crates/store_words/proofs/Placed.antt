@@ -18,15 +18,16 @@ use Rattle.fragment_packets.specs.declared.packet.Packet.the-variants.{Unfit, W
 use Rattle.fragments.specs.Answer.{passed, saidFor}
 use Rattle.fragments.specs.Handing.{siteOf, wholePayload, storedPayload, payloadAt, payloadOf}
 use Rattle.fragments.specs.Promises.{Takes}
-use Rattle.fragments.specs.Rules.{ofSize, isHeld, overlaps, wrongEnd, knownEnd, endWith, ruling, packetRuling, partRuling, outcomeOf, settled}
-use Rattle.fragments.specs.declared.answer.Answer.{Answer}
-use Rattle.fragments.specs.declared.answer.Answer.the-variants as Answer
-use Rattle.fragments.specs.declared.answer.End.{End}
+use Rattle.fragment_rules.specs.Rules.{ofSize, isHeld, overlaps, wrongEnd, knownEnd, endWith, ruling, packetRuling, partRuling}
+use Rattle.fragments.specs.Outcomes.{outcomeOf, settled}
+use Rattle.fragment_rules.specs.declared.answer.Answer.{Answer}
+use Rattle.fragment_rules.specs.declared.answer.Answer.the-variants as Answer
+use Rattle.fragment_rules.specs.declared.answer.End.{End}
 use Rattle.fragments.specs.declared.answer.Site.{Site}
 use Rattle.fragments.specs.declared.answer.Site.the-variants as Site
-use Rattle.fragments.specs.declared.answer.State.{State}
+use Rattle.fragment_rules.specs.declared.answer.State.{State}
 use Rattle.fragments.specs.declared.answer.Taken.{Taken}
-use Rattle.fragments.specs.declared.ruling.Ruling.the-variants.{Refuse, Write}
+use Rattle.fragment_rules.specs.declared.ruling.Ruling.the-variants.{Refuse, Write}
 use Rattle.store_words.proofs.Changing.{settled-changes}
 use Rattle.store_words.specs.Reports.{changes, placeAt, placeOf, countedIn, placedIn}
 

@@ -8,10 +8,10 @@ use Rattle.wire.specs.Rfc894.{body}
 use Rattle.fragments.specs.Handing.{siteOf, storedLength}
 use Rattle.fragments.specs.Answer.{Said, passed, stored, complete, released, refused, saidFor}
 use Rattle.fragment_packets.specs.Packets.{payloadLength}
-use Rattle.fragments.specs.declared.answer.Answer.{Answer}
+use Rattle.fragment_rules.specs.declared.answer.Answer.{Answer}
 use Rattle.fragments.specs.declared.answer.Site.{Site}
 use Rattle.fragments.specs.declared.answer.Site.the-variants as Site
-use Rattle.fragments.specs.declared.answer.State.{State}
+use Rattle.fragment_rules.specs.declared.answer.State.{State}
 use Rattle.fragments.specs.declared.answer.Taken.{Taken}
 use Rattle.store_words.specs.Words.{stateOf, wordsOf}
 

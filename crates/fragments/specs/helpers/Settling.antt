@@ -3,8 +3,8 @@ use Prim.Native.Nat.{ℕ}
 use mathlib.Core.Path.{_≡_}
 use Rattle.fragment_packets.specs.declared.packet.Datagram.{Datagram}
 use Rattle.fragments.specs.Answer.{saidFor}
-use Rattle.fragments.specs.Rules.{settled}
-use Rattle.fragments.specs.declared.answer.End.{End}
+use Rattle.fragments.specs.Outcomes.{settled}
+use Rattle.fragment_rules.specs.declared.answer.End.{End}
 use Rattle.fragments.specs.declared.answer.Taken.{Taken}
 
 -- the answer once blocks are there, and the state

@@ -1,10 +1,10 @@
 -- No reader has to believe this: that numbers are in the range of their types, from which it is proved that the words of a state are read as it.
 use Prim.Native.Nat.{_<_}
 use Rattle.fragment_packets.specs.declared.packet.Datagram.{Datagram}
-use Rattle.fragments.specs.declared.answer.End.{End}
-use Rattle.fragments.specs.declared.answer.End.the-variants.{Unknown, At}
-use Rattle.fragments.specs.declared.answer.State.{State}
-use Rattle.fragments.specs.declared.answer.State.the-variants.{Empty, Filling, Complete}
+use Rattle.fragment_rules.specs.declared.answer.End.{End}
+use Rattle.fragment_rules.specs.declared.answer.End.the-variants.{Unknown, At}
+use Rattle.fragment_rules.specs.declared.answer.State.{State}
+use Rattle.fragment_rules.specs.declared.answer.State.the-variants.{Empty, Filling, Complete}
 
 -- the numbers of a datagram's name that have fewer bits than a word are in range
 abbrev pub NameInRange : Datagram → Type 0

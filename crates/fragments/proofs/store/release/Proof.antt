@@ -7,10 +7,10 @@ use borrow.Author.Tests.{not-true, not-false}
 use lib.ListN.{length, replicate}
 use Rattle.fragments.specs.Answer.{saidFor}
 use Rattle.fragments.specs.Promises.{Releases}
-use Rattle.fragments.specs.Rules.{ofSize}
-use Rattle.fragments.specs.declared.answer.Answer.the-variants as Answer
-use Rattle.fragments.specs.declared.answer.State.{State}
-use Rattle.fragments.specs.declared.answer.State.the-variants.{Empty}
+use Rattle.fragment_rules.specs.Rules.{ofSize}
+use Rattle.fragment_rules.specs.declared.answer.Answer.the-variants as Answer
+use Rattle.fragment_rules.specs.declared.answer.State.{State}
+use Rattle.fragment_rules.specs.declared.answer.State.the-variants.{Empty}
 use borrow.Author.Needs.{needs}
 use Rattle.fragments.proofs.Storing.{of-size}
 use Rattle.fragments.proofs.store.release.Statement.{statement}

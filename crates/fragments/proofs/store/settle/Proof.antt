@@ -5,7 +5,8 @@ use native.Mathlib.Omega.{arith}
 use borrow.Author.Tests.{eq-eqb, ne-eqb}
 use Rattle.bitmap.specs.Bitmap.{bit, count}
 use Rattle.fragments.specs.Answer.{saidFor}
-use Rattle.fragments.specs.Rules.{blocksOf, settled}
+use Rattle.fragment_rules.specs.Rules.{blocksOf}
+use Rattle.fragments.specs.Outcomes.{settled}
 use borrow.Author.Needs.{needs}
 use Rattle.fragments.proofs.store.settle.Statement.{statement}
 use Rattle.fragments.proofs.store.settle.Tie as tie

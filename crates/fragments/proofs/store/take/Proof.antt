@@ -2,7 +2,7 @@
 use mathlib.Core.Path.{refl, sym, _∙_}
 use lib.ListN.{length}
 use Rattle.fragments.specs.Answer.{saidFor}
-use Rattle.fragments.specs.Rules.{outcomeOf}
+use Rattle.fragments.specs.Outcomes.{outcomeOf}
 use Rattle.fragment_packets.proofs.Fitting.{part-fits}
 use Rattle.fragments.proofs.Ruled.{stored}
 use Rattle.fragments.proofs.Storing.{of-size}

@@ -3,7 +3,7 @@ use Prim.Native.Nat.{ℕ}
 use mathlib.Core.Path.{subst, _∙_}
 use Rattle.bitmap.specs.Bitmap.{Marked}
 use Rattle.fragments.specs.helpers.Settling.{Settles}
-use Rattle.fragments.specs.Rules.{firstBlock}
+use Rattle.fragment_rules.specs.Rules.{firstBlock}
 use Rattle.fragments.proofs.Storing.{copied, marked}
 use borrow.Author.Needs.{needs}
 use Rattle.fragments.proofs.store.write.Statement.{statement}
@@ -26,5 +26,5 @@ pub write-spec : {M : Type 1} → statement M
 write-spec =
     tie.close
     (tie.spec (λ c. search needs) (λ c. search needs) (λ c. search needs) (λ c. search needs)
-    (λ c κs. search needs) (λ c. search needs) (λ c κs. search needs) (λ c κs. search needs)
-    (λ c κs. search needs) (λ c. search needs) (λ c. search needs) returns)
+    (λ c κs. search needs) (λ c. search needs) (λ c. search needs) (λ c κs. search needs)
+    (λ c κs. search needs) (λ c κs. search needs) (λ c. search needs) (λ c. search needs) returns)

@@ -4,9 +4,9 @@ use mathlib.Core.Path.{_≡_}
 use borrow.Author.Tests.{eq-eqb, ne-eqb}
 use lib.Dec.{eqb}
 use Rattle.fragment_packets.specs.declared.packet.Datagram.{Datagram}
-use Rattle.fragments.specs.Rules.{sameDatagram}
-use Rattle.fragments.proofs.ruling.is_same.Statement.{statement}
-use Rattle.fragments.proofs.ruling.is_same.Tie as tie
+use Rattle.fragment_rules.specs.Rules.{sameDatagram}
+use Rattle.fragment_rules.proofs.ruling.is_same.Statement.{statement}
+use Rattle.fragment_rules.proofs.ruling.is_same.Tie as tie
 
 module _ (d e : Datagram) where
   other-source : (d .source ≡ e .source → ⊥) → false ≡ sameDatagram d e

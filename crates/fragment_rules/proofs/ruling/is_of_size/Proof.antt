@@ -1,8 +1,8 @@
 -- `is_of_size` meets its contract.
 use borrow.Author.Tests.{eq-eqb, ne-eqb}
-use Rattle.fragments.specs.Rules.{ofSize}
-use Rattle.fragments.proofs.ruling.is_of_size.Statement.{statement}
-use Rattle.fragments.proofs.ruling.is_of_size.Tie as tie
+use Rattle.fragment_rules.specs.Rules.{ofSize}
+use Rattle.fragment_rules.proofs.ruling.is_of_size.Statement.{statement}
+use Rattle.fragment_rules.proofs.ruling.is_of_size.Tie as tie
 
 returns : tie.Need-returns
 unfolding ofSize

@@ -5,10 +5,10 @@ use mathlib.Core.Path.{ap, _∙_}
 use borrow.Author.Tests.{not-true, not-false}
 use lib.Dec.{eqb}
 use Rattle.bitmap.specs.Bitmap.{bit, count}
-use Rattle.fragments.specs.Rules.{wrongEnd}
+use Rattle.fragment_rules.specs.Rules.{wrongEnd}
 use borrow.Author.Needs.{needs}
-use Rattle.fragments.proofs.ruling.has_wrong_end.Statement.{statement}
-use Rattle.fragments.proofs.ruling.has_wrong_end.Tie as tie
+use Rattle.fragment_rules.proofs.ruling.has_wrong_end.Statement.{statement}
+use Rattle.fragment_rules.proofs.ruling.has_wrong_end.Tie as tie
 
 returns : tie.Need-returns
 unfolding wrongEnd
@@ -33,4 +33,4 @@ pub has-wrong-end-spec : {M : Type 1} → statement M
 has-wrong-end-spec =
     tie.close
     (tie.spec (λ c. search needs) (λ c. search needs) returns (λ c. search needs) (λ c. search needs)
-    returns-2 (λ c κs. search needs) (λ c κs. search needs) returns-3 returns-4)
+    returns-2 (λ c. search needs) (λ c κs. search needs) (λ c κs. search needs) returns-3 returns-4)

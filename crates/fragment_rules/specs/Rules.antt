@@ -1,24 +1,23 @@
--- Document 02's rules of the store (request 4/13): the order of refusals, what is stored, and when a datagram is complete.
+-- Document 02's rules of the store (request 4/13): the order of refusals, and what is to be stored.
 use Prim.Native.Nat.{ℕ, _+_, _-_, _*_, _/_}
 use mathlib.Core.Bool.{Bool, true, false, _&&_, _||_, not, cond}
 use mathlib.Core.List.{List}
 use lib.Dec.{eqb, ltb}
 use lib.ListN.{length}
-use Rattle.bitmap.specs.Bitmap.{bit, count, having}
-use Rattle.fragments.specs.Answer.{Said, passed, stored, complete, saidFor}
+use Rattle.bitmap.specs.Bitmap.{bit, count}
 use Rattle.fragment_packets.specs.Packets.{packetOf, endOf}
-use Rattle.fragments.specs.declared.answer.Answer.{Answer}
-use Rattle.fragments.specs.declared.answer.Answer.the-variants as Answer
+use Rattle.fragment_rules.specs.declared.answer.Answer.{Answer}
+use Rattle.fragment_rules.specs.declared.answer.Answer.the-variants as Answer
 use Rattle.fragment_packets.specs.declared.packet.Datagram.{Datagram}
-use Rattle.fragments.specs.declared.answer.End.{End}
-use Rattle.fragments.specs.declared.answer.End.the-variants.{Unknown, At}
-use Rattle.fragments.specs.declared.answer.State.{State}
-use Rattle.fragments.specs.declared.answer.State.the-variants.{Empty, Filling, Complete}
+use Rattle.fragment_rules.specs.declared.answer.End.{End}
+use Rattle.fragment_rules.specs.declared.answer.End.the-variants.{Unknown, At}
+use Rattle.fragment_rules.specs.declared.answer.State.{State}
+use Rattle.fragment_rules.specs.declared.answer.State.the-variants.{Empty, Filling, Complete}
 use Rattle.fragment_packets.specs.declared.packet.Fragment.{Fragment}
 use Rattle.fragment_packets.specs.declared.packet.Packet.{Packet}
 use Rattle.fragment_packets.specs.declared.packet.Packet.the-variants.{Unfit, Whole, Part}
-use Rattle.fragments.specs.declared.ruling.Ruling.{Ruling}
-use Rattle.fragments.specs.declared.ruling.Ruling.the-variants.{Refuse, Pass, Write}
+use Rattle.fragment_rules.specs.declared.ruling.Ruling.{Ruling}
+use Rattle.fragment_rules.specs.declared.ruling.Ruling.the-variants.{Refuse, Pass, Write}
 
 -- "65,515 payload bytes, and 128 words of 64 bits"
 unfoldable pub ofSize : (bytes bits : ℕ) → Bool
@@ -83,21 +82,3 @@ unfoldable pub ruling : State → (frame : List ℕ) (bytes : ℕ) (bits : List 
 ruling state frame bytes bits =
     cond (not (ofSize bytes (length bits))) (Refuse Answer.Unfit)
     (packetRuling state (bit bits) (packetOf frame))
-
--- What is to come of a call: what it says, and the state.
-pub record Outcome : Type 0 where
-  pub said : Said
-  pub state : State
-
--- "The datagram is complete when the end is known and no block before it is missing, counted from the bits."
-unfoldable pub settled : Datagram → End → (there : ℕ → ℕ) → Outcome
-settled d Unknown there = record { said = stored; state = Filling d Unknown }
-settled d (At end) there =
-    cond (eqb (count there 0 (blocksOf end)) (blocksOf end)) (record { said = complete; state = Complete d end })
-    (record { said = stored; state = Filling d (At end) })
-
--- what comes of a ruling
-unfoldable pub outcomeOf : State → (there : ℕ → ℕ) → Ruling → Outcome
-outcomeOf state there (Refuse answer) = record { said = saidFor answer; state = state }
-outcomeOf state there Pass = record { said = passed; state = state }
-outcomeOf state there (Write f end) = settled (f .datagram) end (having there (firstBlock f) (stopBlock f))

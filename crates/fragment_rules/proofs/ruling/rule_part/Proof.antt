@@ -2,15 +2,15 @@
 use mathlib.Core.Bool.{true, false}
 use mathlib.Core.Path.{_≡_}
 use Prim.Native.Nat.{ℕ}
-use Rattle.fragments.specs.Rules.{partRuling, isHeld, overlaps, wrongEnd, knownEnd, endWith}
-use Rattle.fragments.specs.declared.answer.Answer.the-variants as Answer
-use Rattle.fragments.specs.declared.answer.End.{End}
-use Rattle.fragments.specs.declared.answer.State.{State}
-use Rattle.fragments.specs.declared.ruling.Ruling.the-variants.{Refuse, Write}
+use Rattle.fragment_rules.specs.Rules.{partRuling, isHeld, overlaps, wrongEnd, knownEnd, endWith}
+use Rattle.fragment_rules.specs.declared.answer.Answer.the-variants as Answer
+use Rattle.fragment_rules.specs.declared.answer.End.{End}
+use Rattle.fragment_rules.specs.declared.answer.State.{State}
+use Rattle.fragment_rules.specs.declared.ruling.Ruling.the-variants.{Refuse, Write}
 use Rattle.fragment_packets.specs.declared.packet.Fragment.{Fragment}
 use borrow.Author.Needs.{needs}
-use Rattle.fragments.proofs.ruling.rule_part.Statement.{statement}
-use Rattle.fragments.proofs.ruling.rule_part.Tie as tie
+use Rattle.fragment_rules.proofs.ruling.rule_part.Statement.{statement}
+use Rattle.fragment_rules.proofs.ruling.rule_part.Tie as tie
 
 module _ (state : State) (f : Fragment) (there : ℕ → ℕ) where
   gets-11 : isHeld state (f .datagram) ≡ true → Refuse Answer.Held ≡ partRuling state there f

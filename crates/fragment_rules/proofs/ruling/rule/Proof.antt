@@ -9,13 +9,13 @@ use Rattle.bitmap.specs.Bitmap.{bit}
 use Rattle.fragment_packets.proofs.Fitting.{part-fits}
 use Rattle.fragment_packets.specs.Packets.{packetOf}
 use Rattle.fragment_packets.specs.declared.packet.Packet.{Packet}
-use Rattle.fragments.specs.Rules.{ofSize, ruling, packetRuling}
-use Rattle.fragments.specs.declared.answer.Answer.the-variants as Answer
-use Rattle.fragments.specs.declared.answer.State.{State}
-use Rattle.fragments.specs.declared.ruling.Ruling.the-variants.{Refuse}
+use Rattle.fragment_rules.specs.Rules.{ofSize, ruling, packetRuling}
+use Rattle.fragment_rules.specs.declared.answer.Answer.the-variants as Answer
+use Rattle.fragment_rules.specs.declared.answer.State.{State}
+use Rattle.fragment_rules.specs.declared.ruling.Ruling.the-variants.{Refuse}
 use borrow.Author.Needs.{needs}
-use Rattle.fragments.proofs.ruling.rule.Statement.{statement}
-use Rattle.fragments.proofs.ruling.rule.Tie as tie
+use Rattle.fragment_rules.proofs.ruling.rule.Statement.{statement}
+use Rattle.fragment_rules.proofs.ruling.rule.Tie as tie
 
 module _ (state : State) (frame : List ℕ) (bytes : ℕ) (bits : List ℕ) where
   other-size : ofSize bytes (length bits) ≡ false → Refuse Answer.Unfit ≡ ruling state frame bytes bits

@@ -1,9 +1,9 @@
 -- `known_end` meets its contract, state by state.
 use mathlib.Core.Path.{refl}
-use Rattle.fragments.specs.Rules.{knownEnd}
+use Rattle.fragment_rules.specs.Rules.{knownEnd}
 use borrow.Author.Needs.{needs}
-use Rattle.fragments.proofs.ruling.known_end.Statement.{statement}
-use Rattle.fragments.proofs.ruling.known_end.Tie as tie
+use Rattle.fragment_rules.proofs.ruling.known_end.Statement.{statement}
+use Rattle.fragment_rules.proofs.ruling.known_end.Tie as tie
 
 returns : tie.Need-returns
 unfolding knownEnd

@@ -1,9 +1,8 @@
-// What is to be done with a frame, by looking alone: document 02's refusals in their order, one test a
-// line. All that changes the store stands in store.rt.
+// Document 02's refusals in their order, one test a line.
 ghost use mathlib.Core.Path.{_≡_};
-ghost use Prim.Native.Nat.{_≤_, _<_};
+ghost use Prim.Native.Nat.{_≤_};
 ghost use Rattle.bitmap.specs.Bitmap.{bit};
-ghost use Rattle.fragments.specs.Rules.{ruling, partRuling, isHeld, sameDatagram, overlaps, knownEnd, wrongEnd, endWith, ofSize, blocksOf};
+ghost use Rattle.fragment_rules.specs.Rules.{ruling, partRuling, isHeld, sameDatagram, overlaps, knownEnd, wrongEnd, endWith, ofSize, blocksOf};
 ghost use Rattle.fragment_packets.specs.Packets.{endOf};
 use crate::answer::Answer;
 use crate::answer::End;
@@ -74,11 +73,10 @@ pub fn is_of_size(bytes: usize, bits: usize) -> bool
 }
 
 // How many blocks of eight bytes the first `n` bytes touch.
-pub fn blocks_of(n: usize) -> usize
-    requires { ⌜ n < 65536 ⌝ }
+pub fn blocks_of(n: u32) -> usize
     ensures { λ r. ⌜ r ≡ blocksOf n ⌝ }
 {
-    (n + 7) / BLOCK
+    ((n as usize) + 7) / BLOCK
 }
 
 // 11: the store holds a complete datagram or another one.
@@ -119,7 +117,7 @@ fn has_block(fragment: Fragment, bits: &[u64]) -> bool
     ensures { λ r. ⌜ r ≡ overlaps fragment (bit (now (bits .entry))) ⌝ }
 {
     let first = fragment.offset / BLOCK;
-    let stop = blocks_of(fragment.offset + fragment.length);
+    let stop = blocks_of((fragment.offset + fragment.length) as u32);
     bitmap::count(bits, first, stop) != 0
 }
 
@@ -154,7 +152,7 @@ fn has_wrong_end(fragment: Fragment, end: End, bits: &[u64]) -> bool
             if !fragment.last {
                 return false;
             }
-            bitmap::count(bits, blocks_of(stop), BLOCKS) != 0
+            bitmap::count(bits, blocks_of(stop as u32), BLOCKS) != 0
         }
     }
 }

@@ -1,10 +1,10 @@
 -- `is_held` meets its contract, state by state.
 use mathlib.Core.Bool.{not}
 use mathlib.Core.Path.{ap, refl}
-use Rattle.fragments.specs.Rules.{isHeld}
+use Rattle.fragment_rules.specs.Rules.{isHeld}
 use borrow.Author.Needs.{needs}
-use Rattle.fragments.proofs.ruling.is_held.Statement.{statement}
-use Rattle.fragments.proofs.ruling.is_held.Tie as tie
+use Rattle.fragment_rules.proofs.ruling.is_held.Statement.{statement}
+use Rattle.fragment_rules.proofs.ruling.is_held.Tie as tie
 
 returns : tie.Need-returns
 unfolding isHeld

@@ -4,10 +4,10 @@ use mathlib.Core.Bool.{not}
 use mathlib.Core.Path.{ap, _∙_}
 use lib.Dec.{eqb}
 use Rattle.bitmap.specs.Bitmap.{bit, count}
-use Rattle.fragments.specs.Rules.{overlaps}
+use Rattle.fragment_rules.specs.Rules.{overlaps}
 use borrow.Author.Needs.{needs}
-use Rattle.fragments.proofs.ruling.has_block.Statement.{statement}
-use Rattle.fragments.proofs.ruling.has_block.Tie as tie
+use Rattle.fragment_rules.proofs.ruling.has_block.Statement.{statement}
+use Rattle.fragment_rules.proofs.ruling.has_block.Tie as tie
 
 returns : tie.Need-returns
 unfolding overlaps
@@ -18,4 +18,4 @@ returns c =
 pub has-block-spec : {M : Type 1} → statement M
 has-block-spec =
     tie.close
-    (tie.spec (λ c. search needs) (λ c κs. search needs) (λ c κs. search needs) returns)
+    (tie.spec (λ c. search needs) (λ c. search needs) (λ c κs. search needs) (λ c κs. search needs) returns)

@@ -1,8 +1,8 @@
 -- `end_with` meets its contract.
-use Rattle.fragments.specs.Rules.{endWith}
+use Rattle.fragment_rules.specs.Rules.{endWith}
 use borrow.Author.Needs.{needs}
-use Rattle.fragments.proofs.ruling.end_with.Statement.{statement}
-use Rattle.fragments.proofs.ruling.end_with.Tie as tie
+use Rattle.fragment_rules.proofs.ruling.end_with.Statement.{statement}
+use Rattle.fragment_rules.proofs.ruling.end_with.Tie as tie
 
 returns : tie.Need-returns
 unfolding endWith
