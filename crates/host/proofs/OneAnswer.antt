@@ -37,8 +37,8 @@ untold (TooLong len) = refl
 untold (CutType place) = refl
 
 -- different verdicts are told differently
-pub walked-one-to-one : (v w : Verdict) → padded (paper v) ≡ padded (paper w) → v ≡ w
-walked-one-to-one v w e = sym (untold v) ∙ ap verdictOf e ∙ untold w
+pub told-one-to-one : (v w : Verdict) → padded (paper v) ≡ padded (paper w) → v ≡ w
+told-one-to-one v w e = sym (untold v) ∙ ap verdictOf e ∙ untold w
 
 -- a layer, back from its three places
 abbrev layerAt : List ℕ → ℕ → Layer
