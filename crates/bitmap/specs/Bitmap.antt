@@ -7,6 +7,10 @@ use mathlib.Core.Path.{_≡_}
 use lib.Dec.{leb, ltb}
 use lib.ListN.{length, getD}
 
+-- how many blocks of eight bytes the first `n` bytes touch
+unfoldable pub blocksOf : (n : ℕ) → ℕ
+blocksOf n = (n + 7) / 8
+
 -- 1 where block `b` is there, else 0: 64 blocks to a word, the lowest bit first
 unfoldable pub bit : (bits : List ℕ) (b : ℕ) → ℕ
 bit bits b = getD bits (b / 64) 0 / 2 ^ (b % 64) % 2

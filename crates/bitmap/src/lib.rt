@@ -6,9 +6,18 @@ ghost use Prim.Native.Nat.{_+_, _-_, _*_, _^_, _≤_, _<_};
 ghost use lib.Count.{onesIn};
 ghost use lib.Dec.{leb};
 ghost use lib.ListN.{length, getD, replicate};
-ghost use Rattle.bitmap.specs.Bitmap.{bit, Marked, count as Bitmap·count};
+ghost use Rattle.bitmap.specs.Bitmap.{bit, blocksOf, Marked, count as Bitmap·count};
+
+pub const BLOCK: usize = 8;
 
 const ALL: u64 = 0xffff_ffff_ffff_ffff;
+
+// How many blocks of eight bytes the first `n` bytes touch.
+pub fn blocks_of(n: u32) -> usize
+    ensures { λ r. ⌜ r ≡ blocksOf n ⌝ }
+{
+    ((n as usize) + 7) / BLOCK
+}
 
 // How many of the blocks from `first` up to `stop` are there. It takes a turn for each word's worth of
 // blocks, also behind the last word.

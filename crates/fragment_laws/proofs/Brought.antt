@@ -8,12 +8,12 @@ use native.Mathlib.Omega.{arith}
 use borrow.Author.Tests.{not-false, eqb-true}
 use lib.Dec.{eqb, ltb}
 use lib.ListN.{length, drop}
-use Rattle.bitmap.specs.Bitmap.{bit, count, having}
+use Rattle.bitmap.specs.Bitmap.{bit, count, having, blocksOf}
 use Rattle.wire.specs.Rfc894.{body}
 use Rattle.fragments.specs.Promises.{Effect, Takes}
 use Rattle.fragment_packets.specs.Packets.{packetOf}
 use Rattle.fragments.specs.Outcomes.{Outcome, settled, outcomeOf}
-use Rattle.fragment_rules.specs.Rules.{blocksOf, firstBlock, stopBlock, sameDatagram, isHeld, knownEnd, wrongEnd, endWith, ruling}
+use Rattle.fragment_rules.specs.Rules.{firstBlock, stopBlock, sameDatagram, isHeld, knownEnd, wrongEnd, endWith, ruling}
 use Rattle.fragment_packets.specs.Packets.{endOf}
 use Rattle.fragments.specs.Answer as Answer
 use Rattle.fragment_packets.specs.declared.packet.Datagram.{Datagram}

@@ -7,12 +7,12 @@ use mathlib.Core.List.{List, [], _∷_}
 use native.Mathlib.Omega.{arith}
 use borrow.Author.Tests.{le-ltb, eq-eqb, ne-eqb}
 use lib.ListN.{length, getD}
-use Rattle.bitmap.specs.Bitmap.{bit, count}
+use Rattle.bitmap.specs.Bitmap.{bit, count, blocksOf}
 use Rattle.wire.specs.Rfc894.{body}
 use Rattle.fragments.specs.Answer.{stored, complete, saidFor}
 use Rattle.fragments.specs.Promises.{Effect, Takes}
 use Rattle.fragments.specs.Outcomes.{Outcome, settled, outcomeOf}
-use Rattle.fragment_rules.specs.Rules.{ofSize, blocksOf, firstBlock, stopBlock, sameDatagram, isHeld, knownEnd, overlaps, wrongEnd, endWith, partRuling, packetRuling, ruling}
+use Rattle.fragment_rules.specs.Rules.{ofSize, firstBlock, stopBlock, sameDatagram, isHeld, knownEnd, overlaps, wrongEnd, endWith, partRuling, packetRuling, ruling}
 use Rattle.fragment_packets.specs.Packets.{endOf}
 use Rattle.fragment_packets.specs.declared.packet.Datagram.{Datagram}
 use Rattle.fragment_rules.specs.declared.answer.End.{End}

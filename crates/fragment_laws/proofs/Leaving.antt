@@ -6,11 +6,11 @@ use mathlib.Core.List.{List}
 use native.Mathlib.Omega.{arith}
 use lib.Dec.{eqb}
 use lib.ListN.{length}
-use Rattle.bitmap.specs.Bitmap.{bit, count}
+use Rattle.bitmap.specs.Bitmap.{bit, count, blocksOf}
 use Rattle.fragments.specs.Answer.{stored, complete, refused, saidFor}
 use Rattle.fragments.specs.Promises.{Untouched, Effect, Takes}
 use Rattle.fragments.specs.Outcomes.{Outcome, settled, outcomeOf}
-use Rattle.fragment_rules.specs.Rules.{blocksOf, ruling}
+use Rattle.fragment_rules.specs.Rules.{ruling}
 use Rattle.fragment_packets.specs.declared.packet.Datagram.{Datagram}
 use Rattle.fragment_rules.specs.declared.answer.End.{End}
 use Rattle.fragment_rules.specs.declared.answer.End.the-variants.{Unknown, At}

@@ -4,7 +4,7 @@ use mathlib.Core.Bool.{Bool, true, false, _&&_, _||_, not, cond}
 use mathlib.Core.List.{List}
 use lib.Dec.{eqb, ltb}
 use lib.ListN.{length}
-use Rattle.bitmap.specs.Bitmap.{bit, count}
+use Rattle.bitmap.specs.Bitmap.{bit, blocksOf, count}
 use Rattle.fragment_packets.specs.Packets.{packetOf, endOf}
 use Rattle.fragment_rules.specs.declared.answer.Answer.{Answer}
 use Rattle.fragment_rules.specs.declared.answer.Answer.the-variants as Answer
@@ -22,10 +22,6 @@ use Rattle.fragment_rules.specs.declared.ruling.Ruling.the-variants.{Ref
 -- "65,515 payload bytes, and 128 words of 64 bits"
 unfoldable pub ofSize : (bytes bits : ℕ) → Bool
 ofSize bytes bits = eqb bytes 65515 && eqb bits 128
-
--- how many blocks of eight bytes the first `n` bytes touch
-unfoldable pub blocksOf : (n : ℕ) → ℕ
-blocksOf n = (n + 7) / 8
 
 -- a fragment's first block, and the one behind its last
 abbrev pub firstBlock : Fragment → ℕ

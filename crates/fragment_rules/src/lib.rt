@@ -8,8 +8,6 @@ pub use answer::Answer;
 pub use answer::End;
 pub use answer::State;
 pub use fragment_packets::Datagram;
-pub use ruling::BLOCK;
 pub use ruling::Ruling;
-pub use ruling::blocks_of;
 pub use ruling::is_of_size;
 pub use ruling::rule;

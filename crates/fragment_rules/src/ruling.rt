@@ -2,11 +2,13 @@
 ghost use mathlib.Core.Path.{_≡_};
 ghost use Prim.Native.Nat.{_≤_};
 ghost use Rattle.bitmap.specs.Bitmap.{bit};
-ghost use Rattle.fragment_rules.specs.Rules.{ruling, partRuling, isHeld, sameDatagram, overlaps, knownEnd, wrongEnd, endWith, ofSize, blocksOf};
+ghost use Rattle.fragment_rules.specs.Rules.{ruling, partRuling, isHeld, sameDatagram, overlaps, knownEnd, wrongEnd, endWith, ofSize};
 ghost use Rattle.fragment_packets.specs.Packets.{endOf};
 use crate::answer::Answer;
 use crate::answer::End;
 use crate::answer::State;
+use bitmap::BLOCK;
+use bitmap::blocks_of;
 use fragment_packets::Datagram;
 use fragment_packets::Fragment;
 use fragment_packets::Packet;
@@ -17,8 +19,6 @@ use wire::ipv4;
 const BITMAP: usize = 128;
 
 const BLOCKS: usize = BITMAP * 64;
-
-pub const BLOCK: usize = 8;
 
 pub enum Ruling {
     Refuse(Answer),
@@ -70,13 +70,6 @@ pub fn is_of_size(bytes: usize, bits: usize) -> bool
         return false;
     }
     bits == BITMAP
-}
-
-// How many blocks of eight bytes the first `n` bytes touch.
-pub fn blocks_of(n: u32) -> usize
-    ensures { λ r. ⌜ r ≡ blocksOf n ⌝ }
-{
-    ((n as usize) + 7) / BLOCK
 }
 
 // 11: the store holds a complete datagram or another one.

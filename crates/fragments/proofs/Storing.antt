@@ -8,10 +8,10 @@ use borrow.Author.Tests.{eqb-true, le-leb}
 use lib.Dec.{eqb}
 use lib.ListN.{length, take, drop, length-drop}
 use lib.Seq.{length-take-le}
-use Rattle.bitmap.specs.Bitmap.{bit, having, Marked}
+use Rattle.bitmap.specs.Bitmap.{bit, having, Marked, blocksOf}
 use Rattle.base.specs.Bytes.{part}
 use Rattle.base.specs.Buffer.{put, putIfFits}
-use Rattle.fragment_rules.specs.Rules.{ofSize, blocksOf, firstBlock, stopBlock}
+use Rattle.fragment_rules.specs.Rules.{ofSize, firstBlock, stopBlock}
 use Rattle.fragment_packets.specs.Packets.{endOf}
 use Rattle.fragment_packets.specs.declared.packet.Fragment.{Fragment}
 

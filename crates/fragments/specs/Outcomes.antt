@@ -2,10 +2,10 @@
 use Prim.Native.Nat.{ℕ}
 use mathlib.Core.Bool.{cond}
 use lib.Dec.{eqb}
-use Rattle.bitmap.specs.Bitmap.{count, having}
+use Rattle.bitmap.specs.Bitmap.{count, having, blocksOf}
 use Rattle.fragments.specs.Answer.{Said, passed, stored, complete, saidFor}
 use Rattle.fragment_packets.specs.declared.packet.Datagram.{Datagram}
-use Rattle.fragment_rules.specs.Rules.{blocksOf, firstBlock, stopBlock}
+use Rattle.fragment_rules.specs.Rules.{firstBlock, stopBlock}
 use Rattle.fragment_rules.specs.declared.answer.End.{End}
 use Rattle.fragment_rules.specs.declared.answer.End.the-variants.{Unknown, At}
 use Rattle.fragment_rules.specs.declared.answer.State.{State}

@@ -9,14 +9,14 @@ ghost use Rattle.fragments.specs.helpers.Settling.{Settles};
 ghost use Rattle.fragments.specs.Promises.{Takes, Effect, Releases};
 use crate::answer::Taken;
 use base::put;
+use bitmap::BLOCK;
+use bitmap::blocks_of;
 use fragment_packets::Datagram;
 use fragment_packets::Fragment;
 use fragment_rules::Answer;
-use fragment_rules::BLOCK;
 use fragment_rules::End;
 use fragment_rules::Ruling;
 use fragment_rules::State;
-use fragment_rules::blocks_of;
 use fragment_rules::is_of_size;
 use fragment_rules::rule;
 

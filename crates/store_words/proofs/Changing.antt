@@ -5,12 +5,12 @@ use mathlib.Core.List.{List}
 use mathlib.Core.Path.{_≡_, refl, ap, sym, _∙_}
 use lib.Dec.{eqb}
 use lib.ListN.{length}
-use Rattle.bitmap.specs.Bitmap.{count}
+use Rattle.bitmap.specs.Bitmap.{count, blocksOf}
 use Rattle.fragment_packets.specs.declared.packet.Datagram.{Datagram}
 use Rattle.fragments.specs.Answer.{stored, complete, released, refused, saidFor}
 use Rattle.fragments.specs.Promises.{Untouched, Does, Releases}
 use Rattle.fragments.specs.Outcomes.{Outcome, outcomeOf, settled}
-use Rattle.fragment_rules.specs.Rules.{blocksOf, ofSize}
+use Rattle.fragment_rules.specs.Rules.{ofSize}
 use Rattle.fragment_rules.specs.declared.answer.End.{End}
 use Rattle.fragment_rules.specs.declared.answer.End.the-variants.{Unknown, At}
 use Rattle.fragment_rules.specs.declared.answer.State.{State}

@@ -3,9 +3,8 @@ use Prim.Native.Nat.{_-_}
 use mathlib.Core.Path.{_≡_, refl, sym, ap, _∙_}
 use native.Mathlib.Omega.{arith}
 use borrow.Author.Tests.{eq-eqb, ne-eqb}
-use Rattle.bitmap.specs.Bitmap.{bit, count}
+use Rattle.bitmap.specs.Bitmap.{bit, count, blocksOf}
 use Rattle.fragments.specs.Answer.{saidFor}
-use Rattle.fragment_rules.specs.Rules.{blocksOf}
 use Rattle.fragments.specs.Outcomes.{settled}
 use borrow.Author.Needs.{needs}
 use Rattle.fragments.proofs.store.settle.Statement.{statement}

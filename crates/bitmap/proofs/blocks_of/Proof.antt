@@ -1,9 +1,9 @@
 -- `blocks_of` meets its contract.
 use mathlib.Core.Path.{refl}
-use Rattle.fragment_rules.specs.Rules.{blocksOf}
+use Rattle.bitmap.specs.Bitmap.{blocksOf}
 use borrow.Author.Needs.{needs}
-use Rattle.fragment_rules.proofs.ruling.blocks_of.Statement.{statement}
-use Rattle.fragment_rules.proofs.ruling.blocks_of.Tie as tie
+use Rattle.bitmap.proofs.blocks_of.Statement.{statement}
+use Rattle.bitmap.proofs.blocks_of.Tie as tie
 
 returns : tie.Need-returns
 unfolding blocksOf
