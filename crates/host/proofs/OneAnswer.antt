@@ -19,7 +19,7 @@ use Rattle.grammar.specs.Report.{Report, arpKind, icmpKind, udpKind, dhcpKind, 
 use Rattle.host.specs.Parts.{Reported, kindNumber, numberOf, places, placesOf}
 use Rattle.host.specs.Exported.{Built, Sent, Told}
 use Rattle.verdict_numbers.specs.Numbers.{padded}
-use Rattle.reader.specs.Reported.{reportOf as told}
+use Rattle.reader.specs.Reported.{reportOf}
 use Rattle.reader.specs.declared.parts.Reading.{Reading}
 use Rattle.reader.specs.declared.parts.Reading.the-variants.{Arp, Icmp, Udp, Dhcp, Tcp as Reading·Tcp, OtherIpv4, Outside}
 use Rattle.rules.specs.Rules.{outcome}
@@ -45,8 +45,8 @@ abbrev layerAt : List ℕ → ℕ → Layer
 layerAt places at = laid (getD places at 0) (getD places (at + 1) 0) (getD places (at + 2) 0)
 
 -- the report, back from the number and the places
-unfoldable pub reportOf : (number : ℕ) (places : List ℕ) → Report
-reportOf n ps =
+unfoldable pub reportBack : (number : ℕ) (places : List ℕ) → Report
+reportBack n ps =
     cond (eqb n 1) (parts arpKind (layerAt ps 0 ∷ []) [])
     (cond (eqb n 2) (parts icmpKind (layerAt ps 0 ∷ layerAt ps 3 ∷ layerAt ps 6 ∷ []) [])
     (cond (eqb n 3) (parts udpKind (layerAt ps 0 ∷ layerAt ps 3 ∷ layerAt ps 6 ∷ []) [])
@@ -55,8 +55,8 @@ reportOf n ps =
     (cond (eqb n 6) (parts otherIPv4Kind (layerAt ps 0 ∷ layerAt ps 3 ∷ []) []) (refused n))))))
 
 -- what `read` answers is there in what C is told of it
-pub report-back : (before : List ℕ) (r : Reading) → reportOf (numberOf (told r)) (placesOf before (told r)) ≡ told r
-unfolding reportOf told numberOf kindNumber placesOf places
+pub report-back : (before : List ℕ) (r : Reading) → reportBack (numberOf (reportOf r)) (placesOf before (reportOf r)) ≡ reportOf r
+unfolding reportBack reportOf numberOf kindNumber placesOf places
 report-back before (Arp ethernet) = refl
 report-back before (Icmp ethernet ip message) = refl
 report-back before (Udp ethernet ip datagram) = refl

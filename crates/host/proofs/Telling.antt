@@ -13,7 +13,7 @@ use Rattle.grammar.specs.Report.{Reads}
 use Rattle.host.specs.Parts.{Reported, numberOf, placesOf}
 use Rattle.host.specs.Exported.{Built, Told}
 use Rattle.verdict_numbers.specs.Numbers.{padded}
-use Rattle.reader.specs.Reported.{reportOf as told·reading}
+use Rattle.reader.specs.Reported.{reportOf}
 use Rattle.reader.specs.declared.parts.Reading.{Reading}
 
 pub told-of : {w : Writing} {before after : List ℕ} {v : Verdict} {number : ℕ} {values : List ℕ}
@@ -38,6 +38,6 @@ built-of limit len need room image used lent e meets told stored =
     }
 
 pub reported-of : {frame before after : List ℕ} {answer : ℕ} {r s : Reading}
-    → Reads frame (told·reading r) → r ≡ s → answer ≡ numberOf (told·reading s) → after ≡ placesOf before (told·reading s) → Reported frame before after answer
+    → Reads frame (reportOf r) → r ≡ s → answer ≡ numberOf (reportOf s) → after ≡ placesOf before (reportOf s) → Reported frame before after answer
 reported-of {frame = frame} {s = s} reads e number places =
-    record { report = told·reading s; reads = rw (sym e) reads; number = number; parts = places }
+    record { report = reportOf s; reads = rw (sym e) reads; number = number; parts = places }

@@ -18,7 +18,7 @@ use Rattle.record.specs.declared.network.Network.{Network}
 use Rattle.frames.proofs.InBuffer.{ip-frame-in-buffer, ip-frame-in-place-in-buffer, datagram-in-buffer}
 use Rattle.grammar.specs.Grammar.{Derivation, Derives}
 use Rattle.grammar.specs.Report.{refused, partsOf, Reads}
-use Rattle.reader.specs.Reported.{reportOf as told}
+use Rattle.reader.specs.Reported.{reportOf}
 use Rattle.reader.specs.declared.parts.Reading.{Reading}
 use Rattle.grammar.proofs.Exact.{parts-reported, derivation-behind, derived-taken, underived-refused}
 use Rattle.grammar.proofs.Unique.{unique}
@@ -34,21 +34,21 @@ use Rattle.laws.proofs.DerivedIp.{Packet, packet-in-buffer}
 use Rattle.laws.proofs.DerivedReplies.{built-derived, some-derivation}
 
 -- "An added strict reader accepts a byte string exactly when document 01's frame grammar derives it."
-pub accepts-exactly : (s : List ℕ) (r : Reading) → Reads s (told r) → ((told r ≡ refused 8 → ⊥) ↔ ((d : Derivation) × Derives s d))
+pub accepts-exactly : (s : List ℕ) (r : Reading) → Reads s (reportOf r) → ((reportOf r ≡ refused 8 → ⊥) ↔ ((d : Derivation) × Derives s d))
 accepts-exactly s r kept =
-    ((λ f. let b = derivation-behind s (told r) kept f in (b .0, b .1)), (λ h. derived-taken s (told r) kept (h .0) (h .1)))
+    ((λ f. let b = derivation-behind s (reportOf r) kept f in (b .0, b .1)), (λ h. derived-taken s (reportOf r) kept (h .0) (h .1)))
 
 -- and it answers 8 exactly when the grammar doesn't
-pub refuses-exactly : (s : List ℕ) (r : Reading) → Reads s (told r) → ((told r ≡ refused 8) ↔ ((d : Derivation) → Derives s d → ⊥))
-refuses-exactly s r kept = ((λ e d h. derived-taken s (told r) kept d h e), underived-refused s (told r) kept)
+pub refuses-exactly : (s : List ℕ) (r : Reading) → Reads s (reportOf r) → ((reportOf r ≡ refused 8) ↔ ((d : Derivation) → Derives s d → ⊥))
+refuses-exactly s r kept = ((λ e d h. derived-taken s (reportOf r) kept d h e), underived-refused s (reportOf r) kept)
 
 -- "The derivation is the only one"
 pub only-derivation : (s : List ℕ) (d e : Derivation) → Derives s d → Derives s e → d ≡ e
 only-derivation s d e h k = unique s d e h k
 
 -- "and the reported parts are its parts."
-pub reports-its-parts : (s : List ℕ) (r : Reading) → Reads s (told r) → (d : Derivation) → Derives s d → told r ≡ partsOf s d
-reports-its-parts s r kept d h = parts-reported s (told r) kept d h
+pub reports-its-parts : (s : List ℕ) (r : Reading) → Reads s (reportOf r) → (d : Derivation) → Derives s d → reportOf r ≡ partsOf s d
+reports-its-parts s r kept d h = parts-reported s (reportOf r) kept d h
 
 -- "Every reply to a guest frame, like every TCP frame built, is derived by the grammar.": after the answer 1 with n the reply is the first n bytes of the buffer.
 -- That arrays have the lengths that their types say, 6 bytes a MAC and 4 an address, is a hypothesis throughout.
@@ -75,7 +75,7 @@ module _ (guest : Guest) (frame before after : List ℕ) (answer : Answer) (n : 
   handle-in-grammar = reply-in-grammar network guest frame before after answer n four-bytes six m one
 
   -- so the strict reader takes each
-  pub reply-taken : (r : Reading) → Reads (take n after) (told r) → told r ≡ refused 8 → ⊥
+  pub reply-taken : (r : Reading) → Reads (take n after) (reportOf r) → reportOf r ≡ refused 8 → ⊥
   reply-taken r kept = accepts-exactly (take n after) r kept .1 handle-in-grammar
 
 -- Every frame of `make_tcp_frame`, with options and without: TCP.

@@ -7,7 +7,7 @@ use native.Mathlib.Omega.{arith}
 use lib.ListN.{take}
 use Rattle.grammar.specs.Grammar.{Derivation, laid, Derives}
 use Rattle.grammar.specs.Report.{parts, refused, partsOf, Reads, icmpKind}
-use Rattle.reader.specs.Reported.{reportOf as told}
+use Rattle.reader.specs.Reported.{reportOf}
 use Rattle.reader.specs.declared.parts.Reading.{Reading}
 use Rattle.grammar.proofs.Unique.{arp-or-ipv4}
 use Rattle.sums.specs.Rfc1071.{words, sum, total, fold, SumsRight}
@@ -32,11 +32,11 @@ unfolding SumsRight total words sum fold
 ping-outside d x = elim (arp-or-ipv4 ping d x) [ inl a ↦ omega arith | inr i ↦ omega arith ]
 
 -- so the reader neither takes all nor refuses all: whatever keeps its promise takes the one, with these parts, and refuses the other
-pub pong-read : (r : Reading) → Reads pong (told r) → told r ≡ parts icmpKind (laid 0 14 42 ∷ laid 14 34 42 ∷ laid 34 42 42 ∷ []) []
+pub pong-read : (r : Reading) → Reads pong (reportOf r) → reportOf r ≡ parts icmpKind (laid 0 14 42 ∷ laid 14 34 42 ∷ laid 34 42 42 ∷ []) []
 unfolding partsOf
 pong-read r kept = reports-its-parts pong r kept (icmpDerivation 42) pong-derived
 
-pub ping-refused : (r : Reading) → Reads ping (told r) → told r ≡ refused 8
+pub ping-refused : (r : Reading) → Reads ping (reportOf r) → reportOf r ≡ refused 8
 ping-refused r kept = refuses-exactly ping r kept .1 ping-outside
 
 -- "41-byte ARP"
