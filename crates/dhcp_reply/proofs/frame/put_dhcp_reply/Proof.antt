@@ -9,17 +9,22 @@ use borrow.Author.Needs.{needs}
 use Rattle.dhcp_reply.proofs.frame.put_dhcp_reply.Statement.{statement}
 use Rattle.dhcp_reply.proofs.frame.put_dhcp_reply.Tie as tie
 
+-- the lengths that the types say
+module _ (start : tie.Start) where
+  net-four : FourBytes (start .args .net)
+  net-four =
+      let net = start .good .0 .1 .1 in
+      record {
+        gateway = sym (length-map (start .args .net .gateway) _) ∙ net .0 .1 .0 .1;
+        guest = sym (length-map (start .args .net .guest) _) ∙ net .1 .0 .1 .0 .1;
+        mask = sym (length-map (start .args .net .mask) _) ∙ net .1 .1 .0 .1 .0 .1;
+      }
+
 returns : tie.Need-returns
 returns c =
     let start = c .before .before in
     let a = start .args in
-    let net = start .good .0 .1 .1 in
-    let four : FourBytes (a .net) =
-    record {
-      gateway = sym (length-map (a .net .gateway) _) ∙ net .0 .1 .0 .1;
-      guest = sym (length-map (a .net .guest) _) ∙ net .1 .0 .1 .0 .1;
-      mask = sym (length-map (a .net .mask) _) ∙ net .1 .1 .0 .1 .0 .1;
-    } in
+    let four = net-four start in
     let six : length (a .mac) ≡ 6 = omega (arith, start .good) in
     let six′ : length (a .dst-mac) ≡ 6 = omega (arith, start .good) in
     sym (no-fit 0 _ (a .out .now) (omega (arith, length-dhcpFrameTo (a .net) (a .mac) (a .id) (a .dst-mac) (a .xid) (a .kind) four six six′)))
@@ -34,13 +39,7 @@ returns-2 c =
     let tests = target .before .before in
     let start = tests .before .before in
     let a = start .args in
-    let net = start .good .0 .1 .1 in
-    let four : FourBytes (a .net) =
-    record {
-      gateway = sym (length-map (a .net .gateway) _) ∙ net .0 .1 .0 .1;
-      guest = sym (length-map (a .net .guest) _) ∙ net .1 .0 .1 .0 .1;
-      mask = sym (length-map (a .net .mask) _) ∙ net .1 .1 .0 .1 .0 .1;
-    } in
+    let four = net-four start in
     let six : length (a .mac) ≡ 6 = omega (arith, start .good) in
     let six′ : length (a .dst-mac) ≡ 6 = omega (arith, start .good) in
     frame-put (a .net) (a .mac) (a .id) (a .dst-mac) (a .xid) (a .kind) four six six′ (a .out .now) _ _ _ _ _ _ (tests .if1 .left) (target .broadcast .ensures) (headed .put-headers .ensures)
