@@ -16,11 +16,11 @@ replySource = 68
 abbrev pub replyTarget : ℕ
 replyTarget = 67
 
--- the frame around it, to this MAC: "record's MAC at 28", "To 10.0.2.255"
+-- the frame around it, to this MAC: "record's MAC at 28", to the network's broadcast address
 unfoldable pub dhcpFrameTo : Network → (mac : List ℕ) (id : ℕ) (to : List ℕ) (xid type : ℕ) → List ℕ
 dhcpFrameTo net mac id to xid type =
     ipFrame to id 17 (net .gateway) (broadcastOf net) (datagram replySource replyTarget (reply net mac xid type))
 
 -- "and the sender's MAC"
-abbrev pub dhcpFrame : Network → Guest → (frame : List ℕ) (xid type : ℕ) → List ℕ
-dhcpFrame net guest frame xid type = dhcpFrameTo net (guest .mac) (guest .id) (sourceMac frame) xid type
+abbrev pub dhcpFrame : Guest → (frame : List ℕ) (xid type : ℕ) → List ℕ
+dhcpFrame guest frame xid type = dhcpFrameTo (guest .network) (guest .mac) (guest .id) (sourceMac frame) xid type

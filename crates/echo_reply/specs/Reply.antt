@@ -10,11 +10,10 @@ use Rattle.wire.specs.Rfc792.{echo}
 use Rattle.wire.specs.Rfc894.{body, sourceMac}
 use Rattle.frames.specs.Frames.{ipFrame}
 use Rattle.record.specs.declared.guest.Guest.{Guest}
-use Rattle.record.specs.declared.network.Network.{Network}
 
 -- "to the sender's MAC and address, from the gateway": the frame around the echo of what lies from `start` on
-abbrev pub echoFrame : Network → Guest → (frame : List ℕ) (start : ℕ) → List ℕ
-echoFrame net guest frame start = ipFrame (sourceMac frame) (guest .id) 1 (net .gateway) (sourceOf (body frame)) (echo (drop start frame))
+abbrev pub echoFrame : Guest → (frame : List ℕ) (start : ℕ) → List ℕ
+echoFrame guest frame start = ipFrame (sourceMac frame) (guest .id) 1 (guest .network .gateway) (sourceOf (body frame)) (echo (drop start frame))
 
 -- A buffer once the frame around the echo of `request` stands at its front: a request that has a checksum and no more bytes than a packet carries,
 -- and where there is room; else the buffer as it was.

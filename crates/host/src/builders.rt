@@ -4,7 +4,6 @@ ghost use mathlib.Core.Path.{_≡_};
 ghost use mathlib.Core.List.{[], _∷_};
 ghost use Rattle.frames.specs.Builders.{makeIpFrame, makeUdpPayload};
 ghost use Rattle.record.specs.Answer.{paper};
-ghost use Rattle.record.specs.Guest.{known};
 ghost use Rattle.host.specs.Exported.{Built, Told};
 ghost use Rattle.verdict_numbers.specs.Numbers.{padded};
 ghost use Rattle.sums.specs.Rfc1071.{checksum as Rfc1071·checksum};
@@ -13,6 +12,7 @@ use frames::make_ip_frame;
 use frames::make_udp_payload;
 use record::Answer;
 use record::Guest;
+use record::Network;
 use sums::checksum;
 use tcp::Endpoints;
 use tcp::make_tcp_frame;
@@ -103,7 +103,13 @@ fn stored(answer: Answer, id: &mut u16, values: &mut [usize; 2]) -> u32
 
 // Some record with this id: a builder looks at nothing else of it.
 fn of_id(id: u16) -> Guest
-    ensures { λ r. ⌜ r ≡ known (0 ∷ 0 ∷ 0 ∷ 0 ∷ 0 ∷ 0 ∷ []) id 0 ⌝ }
+    ensures { λ r. ⌜ r .id ≡ id ⌝ }
 {
-    Guest::of([0; 6], id, 0)
+    let network = Network {
+        gateway: [0; 4],
+        guest: [0; 4],
+        mask: [0; 4],
+        lease: 0,
+    };
+    Guest::of([0; 6], id, 0, network)
 }

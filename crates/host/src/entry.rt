@@ -1,6 +1,5 @@
 // The entry for C.
 ghost use lib.ListN.{length};
-ghost use Rattle.record.specs.Network.{network};
 ghost use Rattle.host.specs.Exported.{Sent};
 ghost use Rattle.rules.specs.Rules.{outcome};
 use lent_record::send;
@@ -16,7 +15,7 @@ pub extern "C" fn yavoledu_send(
     values: &mut [usize; 2],
 ) -> u32
     ensures { λ r. ⌜ Sent
-        (outcome network (now (guest .entry)) (now (frame .entry)) (length (now (reply .entry))))
+        (outcome (now (guest .entry)) (now (frame .entry)) (length (now (reply .entry))))
         (now (reply .entry)) (now (reply .exit)) r (now (values .exit)) (now (guest .exit)) ⌝ }
 {
     let verdict = send(guest, frame, reply);

@@ -1,7 +1,8 @@
-// What a host links: the gateway with its record lent, the three builders, the checksum, the strict reader and reassembly.
+// What a host links: the record made, the gateway with its record lent, the three builders, the checksum, the strict reader and reassembly.
 // `include/yavoledu.h` has the exported functions as C sees them. No function has a `requires`.
 mod builders;
 mod entry;
+mod making;
 mod reading;
 mod reassembly;
 

@@ -1,7 +1,6 @@
 // The thin entry: the record is lent, and the new one is stored. Nothing relies on checks by its caller.
 ghost use lib.ListN.{length};
 ghost use Rattle.record.specs.Answer.{Meets};
-ghost use Rattle.record.specs.Network.{network};
 ghost use Rattle.rules.specs.Rules.{outcome};
 use record::Guest;
 use record::Verdict;
@@ -11,7 +10,7 @@ use slirp::handle;
 // the reference afterwards.
 pub fn send(guest: &mut Guest, frame: &[u8], reply: &mut [u8]) -> Verdict
     ensures { λ r. ⌜ Meets
-        (outcome network (now (guest .entry)) (now (frame .entry)) (length (now (reply .entry))))
+        (outcome (now (guest .entry)) (now (frame .entry)) (length (now (reply .entry))))
         (now (reply .entry)) (now (reply .exit)) (record { verdict = r; guest = now (guest .exit) }) ⌝ }
 {
     let answer = handle(*guest, frame, reply);

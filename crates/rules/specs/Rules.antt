@@ -1,5 +1,5 @@
 -- Document 01's "Order of tests on a guest frame", test by test in its order, and what comes of each decision: the verdict, the bytes and
--- the record, for every frame, record, room and network.
+-- the record, for every frame, record and room. Every address is the record's.
 use Prim.Native.Nat.{ℕ, _+_, _-_}
 use mathlib.Core.Bool.{_&&_, not, cond}
 use mathlib.Core.List.{List, [], _∷_}
@@ -45,7 +45,7 @@ dataAt frame = payloadAt frame + 8
 abbrev pub datagramData : (frame : List ℕ) → List ℕ
 datagramData frame = part frame (dataAt frame) (dataLength frame)
 
--- "ARP: under 42 bytes, operation not 1, or target not 10.0.2.2: drop. Else a reply of 42 bytes."
+-- "ARP: under 42 bytes, operation not 1, or target not 10.0.2.2: drop. Else a reply of 42 bytes." The target is the network's gateway.
 unfoldable pub arpDecision : Network → (frame : List ℕ) → Decision
 arpDecision net frame =
     cond (ltb (length frame) 42) Drop
@@ -104,19 +104,19 @@ decision net frame =
     Drop))
 
 -- what comes of a decision
-unfoldable pub outcomeOf : Network → Guest → (frame : List ℕ) (room : ℕ) → Decision → Outcome
-outcomeOf net guest frame room Drop = unwritten (0 ∷ []) guest
-outcomeOf net guest frame room (DropNoting xid) = unwritten (0 ∷ []) (noting xid guest)
-outcomeOf net guest frame room ArpReply = framing guest guest 42 room (arpReply net frame)
-outcomeOf net guest frame room (EchoReply start) =
-    framing guest (spent guest) (34 + length (drop start frame)) room (echoFrame net guest frame start)
-outcomeOf net guest frame room (DhcpReply xid type) = framing guest (spent (noting xid guest)) 342 room (dhcpFrame net guest frame xid type)
-outcomeOf net guest frame room (Dns start len) = unwritten (2 ∷ start ∷ len ∷ []) guest
-outcomeOf net guest frame room (Relay start len) = unwritten (3 ∷ start ∷ len ∷ []) guest
-outcomeOf net guest frame room (Tcp len) = unwritten (4 ∷ len ∷ []) guest
-outcomeOf net guest frame room (TooLong len) = unwritten (6 ∷ len ∷ []) guest
-outcomeOf net guest frame room (CutType place) = unwritten (7 ∷ place ∷ []) guest
+unfoldable pub outcomeOf : Guest → (frame : List ℕ) (room : ℕ) → Decision → Outcome
+outcomeOf guest frame room Drop = unwritten (0 ∷ []) guest
+outcomeOf guest frame room (DropNoting xid) = unwritten (0 ∷ []) (noting xid guest)
+outcomeOf guest frame room ArpReply = framing guest guest 42 room (arpReply (guest .network) frame)
+outcomeOf guest frame room (EchoReply start) =
+    framing guest (spent guest) (34 + length (drop start frame)) room (echoFrame guest frame start)
+outcomeOf guest frame room (DhcpReply xid type) = framing guest (spent (noting xid guest)) 342 room (dhcpFrame guest frame xid type)
+outcomeOf guest frame room (Dns start len) = unwritten (2 ∷ start ∷ len ∷ []) guest
+outcomeOf guest frame room (Relay start len) = unwritten (3 ∷ start ∷ len ∷ []) guest
+outcomeOf guest frame room (Tcp len) = unwritten (4 ∷ len ∷ []) guest
+outcomeOf guest frame room (TooLong len) = unwritten (6 ∷ len ∷ []) guest
+outcomeOf guest frame room (CutType place) = unwritten (7 ∷ place ∷ []) guest
 
 -- what comes of a frame
-unfoldable pub outcome : Network → Guest → (frame : List ℕ) (room : ℕ) → Outcome
-outcome net guest frame room = outcomeOf net guest frame room (decision net frame)
+unfoldable pub outcome : Guest → (frame : List ℕ) (room : ℕ) → Outcome
+outcome guest frame room = outcomeOf guest frame room (decision (guest .network) frame)

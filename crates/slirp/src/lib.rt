@@ -4,6 +4,5 @@ mod entry;
 mod replies;
 
 pub use entry::handle;
-pub use entry::handle_on;
 pub use rules::Decision;
 pub use rules::decide;

@@ -13,7 +13,6 @@ use echo_reply::MESSAGE_AT;
 use echo_reply::put_echo_reply;
 use record::Answer;
 use record::Guest;
-use record::Network;
 use record::Verdict;
 use rules::payload_length;
 use wire::arp;
@@ -29,15 +28,16 @@ const SENDER_MAC: usize = ethernet::HEADER + arp::SENDER_MAC;
 const SENDER_IP: usize = ethernet::HEADER + arp::SENDER_IP;
 
 // To whom the request says has sent it.
-pub fn handle_arp(net: Network, guest: Guest, frame: &[u8], reply: &mut [u8]) -> Answer
+pub fn handle_arp(guest: Guest, frame: &[u8], reply: &mut [u8]) -> Answer
     ensures { λ r. ⌜ Meets
-        (framing guest guest 42 (length (now (reply .entry))) (arpReply net (now (frame .entry))))
+        (framing guest guest 42 (length (now (reply .entry))) (arpReply (guest .network) (now (frame .entry))))
         (now (reply .entry)) (now (reply .exit)) r ⌝ }
 {
     if reply.len() < arp_reply::FRAME {
         return guest.answer(Verdict::NoRoom(arp_reply::FRAME));
     }
-    let gateway = net.gateway;
+    let network = guest.network;
+    let gateway = network.gateway;
     put_arp_reply(
         gateway,
         mac_at(frame, SENDER_MAC),
@@ -48,25 +48,20 @@ pub fn handle_arp(net: Network, guest: Guest, frame: &[u8], reply: &mut [u8]) ->
 }
 
 // The echo of what lies from `start` to the end of the frame.
-pub fn handle_icmp(
-    net: Network,
-    guest: Guest,
-    frame: &[u8],
-    start: usize,
-    reply: &mut [u8],
-) -> Answer
+pub fn handle_icmp(guest: Guest, frame: &[u8], start: usize, reply: &mut [u8]) -> Answer
     requires { ⌜ start + 4 ≤ length (now frame) ⌝ }
     requires { ⌜ length (now frame) ≤ start + 65515 ⌝ }
     ensures { λ r. ⌜ Meets
         (framing guest (spent guest) (34 + length (drop start (now (frame .entry)))) (length (now (reply .entry)))
-        (echoFrame net guest (now (frame .entry)) start))
+        (echoFrame guest (now (frame .entry)) start))
         (now (reply .entry)) (now (reply .exit)) r ⌝ }
 {
     let need = MESSAGE_AT + payload_length(frame, start);
     if reply.len() < need {
         return guest.answer(Verdict::NoRoom(need));
     }
-    let gateway = net.gateway;
+    let network = guest.network;
+    let gateway = network.gateway;
     put_echo_reply(
         eth_src(frame),
         guest.id,
@@ -79,23 +74,17 @@ pub fn handle_icmp(
 }
 
 // A reply of type `kind` to the message whose xid is `xid`, in `frame`.
-pub fn handle_dhcp(
-    net: Network,
-    guest: Guest,
-    frame: &[u8],
-    xid: u32,
-    kind: u8,
-    reply: &mut [u8],
-) -> Answer
+pub fn handle_dhcp(guest: Guest, frame: &[u8], xid: u32, kind: u8, reply: &mut [u8]) -> Answer
     ensures { λ r. ⌜ Meets
-        (framing guest (spent (noting xid guest)) 342 (length (now (reply .entry))) (dhcpFrame net guest (now (frame .entry)) xid kind))
+        (framing guest (spent (noting xid guest)) 342 (length (now (reply .entry))) (dhcpFrame guest (now (frame .entry)) xid kind))
         (now (reply .entry)) (now (reply .exit)) r ⌝ }
 {
     if reply.len() < dhcp_reply::FRAME {
         return guest.answer(Verdict::NoRoom(dhcp_reply::FRAME));
     }
+    let network = guest.network;
     let mac = guest.mac;
-    put_dhcp_reply(net, mac, guest.id, eth_src(frame), xid, kind, reply);
+    put_dhcp_reply(network, mac, guest.id, eth_src(frame), xid, kind, reply);
     guest
         .note(xid)
         .spend()
