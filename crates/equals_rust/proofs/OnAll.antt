@@ -11,7 +11,7 @@ use Rattle.wire.specs.Rfc768.{sourcePort, targetPort, lengthField}
 use Rattle.wire.specs.Rfc791.{protocolOf, targetOf}
 use Rattle.wire.specs.Rfc894.{body, typeOf}
 use Rattle.wire.specs.Rfc2131.{operation, magicCookie}
-use Rattle.record.specs.Network.{network}
+use Rattle.equals_rust.specs.Network.{rustNetwork}
 use Rattle.published.specs.Rust.{panics, cuts, whole}
 use Rattle.published.specs.Backend.{SlirpBackend}
 use Rattle.published.specs.Slirp.{«handle_icmp», «handle_ip», send}
@@ -40,16 +40,16 @@ module _ (self : SlirpBackend) (frame : List ℕ) where
         eq-eqb (typeOf frame) 0x0800 (c .ipv4),
       )
 
-  icmp-past : Carries frame 1 → targetOf (body frame) ≡ network .gateway → length frame < payloadAt frame → «handle_ip» self (whole frame) ≡ panics
+  icmp-past : Carries frame 1 → targetOf (body frame) ≡ rustNetwork .gateway → length frame < payloadAt frame → «handle_ip» self (whole frame) ≡ panics
   unfolding «handle_ip» «handle_icmp»
   icmp-past c to past =
-      let ours : same (targetOf (body frame)) (network .gateway) ≡ true = ap (λ (l : List ℕ). same l (network .gateway)) to ∙ equal-same (network .gateway) in
+      let ours : same (targetOf (body frame)) (rustNetwork .gateway) ≡ true = ap (λ (l : List ℕ). same l (rustNetwork .gateway)) to ∙ equal-same (rustNetwork .gateway) in
       rw (
         le-ltb (length frame) 34 (c .long),
         ip-proto frame (omega (arith, c .long)),
         eq-eqb (protocolOf (body frame)) 1 (c .carried),
         ip-dst frame (c .long),
-        same-array (targetOf (body frame)) (network .gateway),
+        same-array (targetOf (body frame)) (rustNetwork .gateway),
         ours,
         payload-past frame (omega (arith, c .long)) past,
       )
@@ -66,7 +66,7 @@ module _ (self : SlirpBackend) (frame : List ℕ) where
         payload-past frame (omega (arith, c .long)) past,
       )
 
-  read-past : (Carries frame 1 × (targetOf (body frame) ≡ network .gateway)) ⊎ Carries frame 17 → length frame < payloadAt frame → send self (whole frame) ≡ panics
+  read-past : (Carries frame 1 × (targetOf (body frame) ≡ rustNetwork .gateway)) ⊎ Carries frame 17 → length frame < payloadAt frame → send self (whole frame) ≡ panics
   read-past (inl (c, to)) past = ip-read 1 c ∙ icmp-past c to past
   read-past (inr c) past = ip-read 17 c ∙ udp-past c past
 
@@ -74,7 +74,7 @@ module _ (self : SlirpBackend) (frame : List ℕ) where
   header-past-panics h = read-past (h .read) (h .past)
 
 -- a DHCP message whose type is cut off is decided so
-pub cut-decided : (frame : List ℕ) (place : ℕ) → CutMessage frame place → decision network frame ≡ CutType place
+pub cut-decided : (frame : List ℕ) (place : ℕ) → CutMessage frame place → decision rustNetwork frame ≡ CutType place
 unfolding decision ipDecision udpDecision dhcpDecision
 cut-decided frame place m =
     let d = m .message .datagram in
@@ -103,7 +103,7 @@ module _ (self : SlirpBackend) (frame : List ℕ) (typed : GuestTyped (recordOf 
   unfolding Ran
   type-cut-panics place m = subst (Ran self frame (send self (whole frame))) (cut-decided frame place m) (send-ran self frame typed bytes)
 
-  pub ping-over-cuts : (len : ℕ) → TooLongPing network frame len → send self (whole frame) ≡ cuts
+  pub ping-over-cuts : (len : ℕ) → TooLongPing rustNetwork frame len → send self (whole frame) ≡ cuts
   unfolding Ran
   ping-over-cuts len p =
-      subst (Ran self frame (send self (whole frame))) (too-long-decided network frame (p .asked) (subst (λ (n : ℕ). 65515 < n) (p .its-length) (p .over))) (send-ran self frame typed bytes)
+      subst (Ran self frame (send self (whole frame))) (too-long-decided rustNetwork frame (p .asked) (subst (λ (n : ℕ). 65515 < n) (p .its-length) (p .over))) (send-ran self frame typed bytes)
