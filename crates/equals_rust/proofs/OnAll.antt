@@ -21,7 +21,7 @@ use Rattle.rules.specs.Same.{same}
 use Rattle.rules.specs.Seen.{Carries, CutMessage, TooLongPing}
 use Rattle.rules.specs.declared.decision.Decision.the-variants.{CutType}
 use Rattle.rules.proofs.Same.{equal-same}
-use Rattle.rules.proofs.Says.{too-long-decided}
+use Rattle.rules.proofs.Says.{dhcp-decided, too-long-decided}
 use Rattle.equals_rust.specs.Alike.{recordOf}
 use Rattle.equals_rust.specs.Types.{Bytes, GuestTyped}
 use Rattle.equals_rust.specs.Where.{HeaderPast}
@@ -75,23 +75,10 @@ module _ (self : SlirpBackend) (frame : List ℕ) where
 
 -- a DHCP message whose type is cut off is decided so
 pub cut-decided : (frame : List ℕ) (place : ℕ) → CutMessage frame place → decision rustNetwork frame ≡ CutType place
-unfolding decision ipDecision udpDecision dhcpDecision
+unfolding dhcpDecision
 cut-decided frame place m =
-    let d = m .message .datagram in
-    let c = d .udp in
-    simp (
-      le-ltb (length frame) 14 (omega (arith, c .long)),
-      ne-eqb (typeOf frame) 0x0806 (λ e. omega (arith, e, c .ipv4)),
-      eq-eqb (typeOf frame) 0x0800 (c .ipv4),
-      le-ltb (length frame) 34 (c .long),
-      ne-eqb (protocolOf (body frame)) 1 (λ e. omega (arith, e, c .carried)),
-      ne-eqb (protocolOf (body frame)) 6 (λ e. omega (arith, e, c .carried)),
-      eq-eqb (protocolOf (body frame)) 17 (c .carried),
-      le-ltb (length frame) (payloadAt frame) (d .there),
-      le-ltb (length (payload frame)) 8 (d .whole),
-      le-ltb (lengthField (payload frame)) 8 (d .stated),
-      eq-eqb (sourcePort (payload frame)) 68 (m .message .from-68),
-      eq-eqb (targetPort (payload frame)) 67 (m .message .to-67),
+    dhcp-decided rustNetwork frame (m .message .datagram) (m .message .from-68) (m .message .to-67)
+    ∙ simp (
       le-ltb (length (datagramData frame)) 240 (m .message .fixed),
       eq-eqb (operation (datagramData frame)) 1 (m .message .from-client),
       eq-eqb (magicCookie (datagramData frame)) 0x63825363 (m .cookie),
