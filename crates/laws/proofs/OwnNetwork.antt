@@ -8,7 +8,7 @@ use native.Mathlib.Nat.{add-zero, zero-add}
 use native.Mathlib.Omega.{arith}
 use lib.ListN.{length, getD, drop}
 use Rattle.base.proofs.Lists.{all-bytes}
-use Rattle.base.specs.Bytes.{bytesAt, part}
+use Rattle.base.specs.Bytes.{be16, bytesAt}
 use Rattle.record.specs.Guest.{Sized}
 use Rattle.record.specs.Network.{FourBytes, broadcastOf}
 use Rattle.record.specs.declared.guest.Guest.{Guest}
@@ -16,15 +16,21 @@ use Rattle.record.specs.declared.network.Network.{Network}
 use Rattle.arp_reply.specs.Reply.{arpReply, replyTo}
 use Rattle.dhcp_message.specs.Message.{reply}
 use Rattle.dhcp_reply.specs.Reply.{dhcpFrame, dhcpFrameTo}
+use Rattle.echo_reply.proofs.Echo.{length-echo}
+use Rattle.echo_reply.specs.Reply.{echoFrame}
 use Rattle.frames.specs.Frames.{ipFrame}
+use Rattle.sums.specs.Rfc1071.{checksum}
 use Rattle.wire.specs.Rfc768.{datagram}
-use Rattle.wire.specs.Rfc791.{header, headerWith}
-use Rattle.rules.specs.Rules.{decision}
+use Rattle.wire.specs.Rfc791.{header, headerWith, sourceOf}
+use Rattle.wire.specs.Rfc792.{echo}
+use Rattle.wire.specs.Rfc826 as Arp
+use Rattle.wire.specs.Rfc894.{body, sourceMac}
+use Rattle.rules.specs.Rules.{decision, payload, payloadAt}
 use Rattle.rules.specs.Seen.{EchoAsked}
 use Rattle.rules.specs.declared.decision.Decision.the-variants.{ArpReply, EchoReply, DhcpReply}
 use Rattle.rules.proofs.Says.{Says, says, dhcp-decided, echo-answered}
 use Rattle.laws.specs.Table.{built, replyAtAmpleRoom}
-use Rattle.laws.specs.OwnNetwork.{Place, within, Stand, DifferAt, arpPlaces, echoPlaces, dhcpPlaces, onNetwork, SameRequest, SamePing}
+use Rattle.laws.specs.OwnNetwork.{Place, at, within, Stand, DifferAt, arpPlaces, echoPlaces, dhcpPlaces, onNetwork, SameRequest, SamePing}
 
 -- a frame, from its byte `k` on, with 0 at the places
 blanked : List Place → (k : ℕ) (frame : List ℕ) → List ℕ
@@ -88,3 +94,61 @@ dhcp-replies-differ guest net frame xid type sized four e =
     rw (e, e′)
     (by-bytes (Lease (guest .id) (guest .xid) frame xid type) (guest .network) (guest .mac) net (sized .network) (sized .mac) four
     (leases-differ (guest .id) (guest .xid) frame xid type (guest .network) (guest .mac) net))
+
+-- the places of an echo reply around `len` bytes
+headed : (len id : ℕ) (target gateway : List ℕ) → List Place
+headed len id target gateway = at 24 2 (be16 (checksum (headerWith 0 (20 + len) id 1 gateway target))) ∷ at 26 4 gateway ∷ []
+
+-- the gateway's address, in an ARP reply and in the header of an echo reply, and what stands around it
+module _ (gateway gateway′ : List ℕ) (four : length gateway ≡ 4) (four′ : length gateway′ ≡ 4) where
+  arp-at : (frame : List ℕ)
+      → DifferAt (at 28 4 gateway ∷ []) (at 28 4 gateway′ ∷ []) (replyTo gateway (Arp.senderMac (body frame)) (Arp.senderAddress (body frame))) (replyTo gateway′ (Arp.senderMac (body frame)) (Arp.senderAddress (body frame)))
+  unfolding replyTo blanked
+  arp-at frame =
+      rw (all-bytes gateway 4 four, all-bytes gateway′ 4 four′)
+      (record { own = (refl, tt); own′ = (refl, tt); as-long = refl; same-elsewhere = same-but-there (at 28 4 (bytesAt gateway 0 4) ∷ []) (replyTo (bytesAt gateway 0 4) (Arp.senderMac (body frame)) (Arp.senderAddress (body frame))) (replyTo (bytesAt gateway′ 0 4) (Arp.senderMac (body frame)) (Arp.senderAddress (body frame))) refl })
+
+  echo-at : (id : ℕ) (frame message : List ℕ)
+      → DifferAt (headed (length message) id (sourceOf (body frame)) gateway) (headed (length message) id (sourceOf (body frame)) gateway′)
+      (ipFrame (sourceMac frame) id 1 gateway (sourceOf (body frame)) message) (ipFrame (sourceMac frame) id 1 gateway′ (sourceOf (body frame)) message)
+  unfolding headed ipFrame header headerWith blanked
+  echo-at id frame message =
+      rw (all-bytes gateway 4 four, all-bytes gateway′ 4 four′)
+      (record {
+        own = (refl, (refl, tt));
+        own′ = (refl, (refl, tt));
+        as-long = refl;
+        same-elsewhere = same-but-there (headed (length message) id (sourceOf (body frame)) (bytesAt gateway 0 4)) (ipFrame (sourceMac frame) id 1 (bytesAt gateway 0 4) (sourceOf (body frame)) message)
+            (ipFrame (sourceMac frame) id 1 (bytesAt gateway′ 0 4) (sourceOf (body frame)) message) refl;
+      })
+
+-- The replies to one ARP request, sent to each record's own gateway.
+pub arp-replies-differ : (guest guest′ : Guest) (frame frame′ : List ℕ) → Sized guest → Sized guest′ → SameRequest frame frame′
+    → decision (guest .network) frame ≡ ArpReply → decision (guest′ .network) frame′ ≡ ArpReply
+    → DifferAt (arpPlaces guest) (arpPlaces guest′) (replyAtAmpleRoom guest frame) (replyAtAmpleRoom guest′ frame′)
+unfolding replyAtAmpleRoom
+arp-replies-differ guest guest′ frame frame′ sized sized′ same e e′ =
+    rw (e, e′)
+    (subst (λ (r : List ℕ). DifferAt (arpPlaces guest) (arpPlaces guest′) (arpReply (guest .network) frame) r)
+    (ap₂ (replyTo (guest′ .network .gateway)) (same .mac) (same .address))
+    (arp-at (guest .network .gateway) (guest′ .network .gateway) (sized .network .gateway) (sized′ .network .gateway) frame))
+
+-- The replies to one ping, sent to each record's own gateway.
+pub echo-replies-differ : (guest : Guest) (net : Network) (frame frame′ : List ℕ) → Sized guest → FourBytes net → SamePing frame frame′
+    → EchoAsked (guest .network) frame → EchoAsked net frame′ → length (payload frame) ≤ 65515
+    → DifferAt (echoPlaces guest frame) (echoPlaces (onNetwork net guest) frame′) (replyAtAmpleRoom guest frame) (replyAtAmpleRoom (onNetwork net guest) frame′)
+unfolding replyAtAmpleRoom headed
+echo-replies-differ guest net frame frame′ sized four same asked asked′ within =
+    let id = guest .id in
+    let ours = guest .network .gateway in
+    let theirs = net .gateway in
+    let target = sourceOf (body frame) in
+    let message = echo (payload frame) in
+    let reply = ipFrame (sourceMac frame) id 1 ours target message in
+    let reply′ = ipFrame (sourceMac frame) id 1 theirs target message in
+    let here : DifferAt (headed (length (payload frame)) id target ours) (headed (length (payload frame)) id target theirs) reply reply′ =
+    subst (λ (n : ℕ). DifferAt (headed n id target ours) (headed n id target theirs) reply reply′) (length-echo (payload frame) (omega (arith, asked .whole)))
+    (echo-at ours theirs (sized .network .gateway) (four .gateway) id frame message) in
+    rw (echo-answered (guest .network) frame asked within, echo-answered net frame′ asked′ (subst (λ (l : List ℕ). length l ≤ 65515) (same .message) within))
+    (subst (λ (r : List ℕ). DifferAt (echoPlaces guest frame) (echoPlaces (onNetwork net guest) frame′) reply r) (λ i. ipFrame (same .mac i) id 1 theirs (same .address i) (echo (same .message i)))
+    (subst (λ (places : List Place). DifferAt (echoPlaces guest frame) places reply reply′) (λ i. headed (length (same .message i)) id (same .address i) theirs) here))
