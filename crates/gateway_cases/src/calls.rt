@@ -1,7 +1,7 @@
 // One call: the record, the room and the frame that a line holds, and whether verdict, reply and record
 // come out as it says.
 ghost use mathlib.Core.Path.{_≡_};
-ghost use Rattle.gateway_cases.specs.Calls.{Called, Judged, isCall};
+ghost use Rattle.gateway_cases.specs.Calls.{Called, Judged, fieldsOf, isCall};
 use crate::pieces;
 use record::Guest;
 use record::Network;
@@ -47,8 +47,6 @@ pub struct Outcome {
     pub agrees: bool,
     pub verdict: u8,
     pub whose: u8,
-    // Whether its network is another than document 01's.
-    pub elsewhere: bool,
     // The record that the call left.
     pub guest: Guest,
 }
@@ -70,19 +68,25 @@ pub fn called(line: &[u8], last: Guest) -> Outcome
     ensures { λ r. ⌜ Called (now (line .entry)) r ⌝ }
 {
     let kind = byte_at(line, 0) % vectors::SPOILED;
-    if kind == GOES_ON {
-        return judged(vectors::rest(line, 1), last);
+    judged(fields_of(line, kind), record_before(line, kind, last))
+}
+
+fn fields_of(line: &[u8], kind: u8) -> &[u8]
+    ensures { λ r. ⌜ now r ≡ fieldsOf kind (now (line .entry)) ⌝ }
+{
+    match kind {
+        GOES_ON => vectors::rest(line, 1),
+        ON_NETWORK => vectors::rest(line, 23),
+        _ => vectors::rest(line, 7),
     }
-    if kind == ON_NETWORK {
-        return judged(
-            vectors::rest(line, 23),
-            record_before(vectors::rest(line, 17), network_at(line)),
-        );
+}
+
+fn record_before(line: &[u8], kind: u8, last: Guest) -> Guest {
+    match kind {
+        GOES_ON => last,
+        ON_NETWORK => known(vectors::rest(line, 17), network_at(line)),
+        _ => known(vectors::rest(line, 1), vectors::network()),
     }
-    judged(
-        vectors::rest(line, 7),
-        record_before(vectors::rest(line, 1), vectors::network()),
-    )
 }
 
 fn network_at(line: &[u8]) -> Network {
@@ -95,7 +99,7 @@ fn network_at(line: &[u8]) -> Network {
 }
 
 // From id and xid on. It has the MAC of the record after the call, which stands behind them.
-fn record_before(fields: &[u8], network: Network) -> Guest {
+fn known(fields: &[u8], network: Network) -> Guest {
     Guest::of(
         mac_at(fields, 6),
         u16be(fields, 0),
@@ -109,17 +113,18 @@ fn judged(fields: &[u8], before: Guest) -> Outcome
 {
     let verdict = byte_at(fields, VERDICT_AT);
     let whose = byte_at(fields, WHOSE_AT);
-    let network = before.network;
-    let elsewhere = !vectors::same_network(network, vectors::network());
-    if VERDICTS <= verdict || WHOSE <= whose {
-        return Outcome {
-            named: false,
-            agrees: false,
-            verdict: verdict,
-            whose: whose,
-            elsewhere: elsewhere,
-            guest: before,
-        };
+    let unnamed = Outcome {
+        named: false,
+        agrees: false,
+        verdict: verdict,
+        whose: whose,
+        guest: before,
+    };
+    if VERDICTS <= verdict {
+        return unnamed;
+    }
+    if WHOSE <= whose {
+        return unnamed;
     }
     let checked = call(fields, before);
     let after = checked.guest;
@@ -128,7 +133,6 @@ fn judged(fields: &[u8], before: Guest) -> Outcome
         agrees: checked.agrees,
         verdict: verdict,
         whose: whose,
-        elsewhere: elsewhere,
         guest: after,
     }
 }

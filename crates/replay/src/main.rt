@@ -83,9 +83,11 @@ fn call_judged(run: Run, line: &[u8]) -> Run {
     let once = counted(run, row, outcome.agrees);
     let whose_row = rows::of_whose(outcome.named, outcome.whose);
     let twice = counted(once, whose_row, outcome.agrees);
-    let all = counted_elsewhere(twice, outcome.named & outcome.elsewhere, outcome.agrees);
-    let tally = all.tally;
     let after = outcome.guest;
+    let network = after.network;
+    let elsewhere = !vectors::same_network(network, vectors::network());
+    let all = counted_elsewhere(twice, outcome.named & elsewhere, outcome.agrees);
+    let tally = all.tally;
     Run {
         tally: tally,
         guest: after,
