@@ -39,6 +39,8 @@ mod guest_frames;
 mod lines;
 #[allow(dead_code)]
 mod mended;
+#[allow(dead_code)]
+mod networks;
 mod pieces;
 #[allow(dead_code)]
 mod the_rust;
