@@ -9,7 +9,6 @@ pub const GATEWAY_SEED: u64 = 0xd1b5_4a32_d192_ed03;
 #[allow(dead_code)] // by oracle/vectors
 pub const READINGS_SEED: u64 = 0xbf58_476d_1ce4_e5b9;
 pub const NETWORKS_SEED: u64 = 0x94d0_49bb_1331_11eb;
-pub const MAKINGS_SEED: u64 = 0x2127_599b_f432_5c37;
 
 pub const GATEWAY_IP: [u8; 4] = HERE.gateway;
 pub const GUEST_IP: [u8; 4] = HERE.guest;

@@ -9,10 +9,12 @@ mod making_02;
 #[allow(dead_code)]
 mod networks;
 
-use draws::{Draws, MAKINGS_SEED};
+use draws::Draws;
 use lines::{Lines, hex};
 use making_02::{Asked, made};
 use networks::NETWORKS;
+
+const SEED: u64 = 0x2127_599b_f432_5c37;
 
 const KIND: u8 = 0x10;
 const MADE: u8 = 24;
@@ -77,17 +79,25 @@ fn contiguous(ones: u32) -> u32 {
 
 fn main() {
     let mut list = List {
-        draws: Draws::new(MAKINGS_SEED),
+        draws: Draws::new(SEED),
         lines: Lines::new(),
     };
-    list.lines.comment("Records made and refused: what document 02's request 1/13 says.");
-    list.lines.comment(&format!("Drawn by xorshift64 from seed {MAKINGS_SEED:#018x}."));
+    list.lines
+        .comment("Records made and refused: what document 02's request 1/13 says.");
+    list.lines
+        .comment(&format!("Drawn by xorshift64 from seed {SEED:#018x}."));
     let groups: [(&str, fn(&mut List)); 5] = [
-        ("the networks of the gateway's lines, by lease times", networks),
+        (
+            "the networks of the gateway's lines, by lease times",
+            networks,
+        ),
         ("every mask of ones followed by zeros", masks),
         ("such masks with one bit changed", flipped_masks),
         ("drawn masks", drawn_masks),
-        ("addresses at the edges of networks, outside them, and equal", edges),
+        (
+            "addresses at the edges of networks, outside them, and equal",
+            edges,
+        ),
     ];
     for (words, add_cases) in groups {
         list.lines.comment(&format!("10: {words}"));
@@ -128,7 +138,13 @@ fn flipped_masks(list: &mut List) {
     for ones in 0..=32u32 {
         let (lowest, highest) = list.drawn_network(ones);
         let drawn = list.draws.below(32) as u32;
-        let mut bits = vec![0, ones.saturating_sub(2), ones.saturating_sub(1), ones, ones + 1];
+        let mut bits = vec![
+            0,
+            ones.saturating_sub(2),
+            ones.saturating_sub(1),
+            ones,
+            ones + 1,
+        ];
         bits.extend([31, drawn]);
         bits.retain(|bit| *bit < 32);
         bits.sort();

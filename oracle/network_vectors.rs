@@ -18,7 +18,10 @@ const GROUPS: [(&str, fn(&mut GatewayList)); 6] = [
     ("0f: rooms", rooms),
     ("0f: ids and record's MACs", ids),
     ("0f: drawn frames", drawn_frames),
-    ("0f, then 0e: a guest starts, refusals between", guest_starts),
+    (
+        "0f, then 0e: a guest starts, refusals between",
+        guest_starts,
+    ),
 ];
 
 pub fn list() -> String {
