@@ -10,7 +10,8 @@ use Rattle.dhcp_reply.specs.Reply.{replySource, replyTarget, dhcpFrame, 
 use Rattle.dhcp_message.proofs.ReadBack.{ReplyOf, reply-reads-back}
 use Rattle.frames.proofs.Lengths.{length-datagram}
 use Rattle.frames.proofs.ReadBack.{DatagramOf, datagram-reads-back, FrameOf, frame-of}
-use Rattle.record.specs.Network.{broadcastOf, FourBytes}
+use Rattle.record.specs.Guest.{Sized}
+use Rattle.record.specs.Network.{broadcastOf}
 use Rattle.record.specs.declared.guest.Guest.{Guest}
 use Rattle.wire.specs.Rfc768.{datagram}
 use Rattle.wire.specs.Rfc894.{sourceMac}
@@ -22,18 +23,18 @@ pub record AnswersDhcp (answer : List ℕ) (guest : Guest) (frame : List ℕ) (x
   pub in-datagram : DatagramOf (drop 34 answer) replySource replyTarget
   pub message : ReplyOf (drop 42 answer) (guest .network) (guest .mac) xid type
 
-pub dhcp-reads-back : (guest : Guest) (frame : List ℕ) (xid type : ℕ) → FourBytes (guest .network) → length (guest .mac) ≡ 6
+pub dhcp-reads-back : (guest : Guest) (frame : List ℕ) (xid type : ℕ) → Sized guest
     → AnswersDhcp (dhcpFrame guest frame xid type) guest frame xid type
 unfolding dhcpFrameTo datagram
-dhcp-reads-back guest frame xid type four six =
+dhcp-reads-back guest frame xid type sized =
     let net = guest .network in
     let d = datagram replySource replyTarget (reply net (guest .mac) xid type) in
-    let f = frame-of (sourceMac frame) (net .gateway) (broadcastOf net) (guest .id) 17 d refl (four .gateway) refl in
+    let f = frame-of (sourceMac frame) (net .gateway) (broadcastOf net) (guest .id) 17 d refl (sized .network .gateway) refl in
     let inner : drop 42 (dhcpFrame guest frame xid type) ≡ reply net (guest .mac) xid type =
     sym (drop-drop 8 34 (dhcpFrame guest frame xid type)) ∙ ap (drop 8) (f .carried) in
     record {
       framed = f;
-      long = omega (arith, f .long, length-datagram replySource replyTarget (reply net (guest .mac) xid type), reply-reads-back net (guest .mac) xid type four six .long);
+      long = omega (arith, f .long, length-datagram replySource replyTarget (reply net (guest .mac) xid type), reply-reads-back net (guest .mac) xid type (sized .network) (sized .mac) .long);
       in-datagram = rw (f .carried) (datagram-reads-back replySource replyTarget (reply net (guest .mac) xid type));
-      message = rw inner (reply-reads-back net (guest .mac) xid type four six);
+      message = rw inner (reply-reads-back net (guest .mac) xid type (sized .network) (sized .mac));
     }
