@@ -57,7 +57,7 @@ pub fn run(seed: u64) -> bool {
     let (made, refused) = (grouped(makings.made), grouped(makings.refused));
     match &outcome {
         Ok(every) => println!(
-            "records: {made} made and {refused} refused, {} of them the products of small choices; 0 differences",
+            "records, seed {seed:#x}: {made} made and {refused} refused, {} of them the products of small choices; 0 differences",
             grouped(*every)
         ),
         Err(difference) => {
