@@ -145,8 +145,8 @@ pub fn report(sides: &mut Sides, input: Input, difference: Difference) -> String
     text
 }
 
-/// The call: a builder's with its payload, or the line for the shell that hands the frame to `gwone`, which is on document
-/// 01's network; on another the line prints the frame.
+/// The call: a builder's with its payload, or the line for the shell that hands the frame to `gwone`;
+/// on another network than `gwone`'s that line only prints the frame.
 pub fn call_text(input: &Input, id: Option<u16>) -> String {
     let id = id.map_or(String::new(), |id| format!(" id {id},"));
     let mut text = format!(
