@@ -160,7 +160,12 @@ impl Judge {
             // The id is where the Rust's counter stands, since that is one for the process. Behind a call that the
             // Rust answered this is the record as our side left it.
             let id = self.rust.ids.next();
-            let record = Record { mac, id, xid };
+            let record = Record {
+                mac,
+                id,
+                xid,
+                network: networks::HERE,
+            };
             match asked {
                 Asked::Frame(frame) => xid = self.sent(record, &frame, room).after.xid,
                 Asked::Built(Builder::Made(call), payload) => {

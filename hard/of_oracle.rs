@@ -68,6 +68,9 @@ mod lines;
 #[path = "../oracle/mended.rs"]
 mod mended;
 #[allow(dead_code)]
+#[path = "../oracle/networks.rs"]
+mod networks;
+#[allow(dead_code)]
 #[path = "../oracle/pieces.rs"]
 mod pieces;
 #[allow(dead_code)]

@@ -3,6 +3,7 @@
 use crate::cases::Call;
 use crate::document_01::Record;
 use crate::draws::Draws;
+use crate::networks::Network;
 
 // The functions that compared.rt.txt exports; a slice is a pointer and a length.
 unsafe extern "C" {
@@ -10,6 +11,7 @@ unsafe extern "C" {
         mac: *mut u8,
         id: *mut u16,
         xid: *mut u32,
+        network: *mut u32,
         frame: *const u8,
         frame_len: usize,
         reply: *mut u8,
@@ -21,6 +23,7 @@ unsafe extern "C" {
         mac: *mut u8,
         id: *mut u16,
         xid: *mut u32,
+        network: *mut u32,
         dst_mac: *const u8,
         src_ip: *const u8,
         dst_ip: *const u8,
@@ -46,6 +49,7 @@ unsafe extern "C" {
         mac: *mut u8,
         id: *mut u16,
         xid: *mut u32,
+        network: *mut u32,
         dst_mac: *const u8,
         src_ip: *const u8,
         src_port: u16,
@@ -64,6 +68,7 @@ unsafe extern "C" {
     fn compared_dhcp_reply(
         mac: *const u8,
         xid: u32,
+        network: *const u32,
         kind: u8,
         out: *mut u8,
         room: usize,
@@ -73,6 +78,24 @@ unsafe extern "C" {
     fn compared_message_type(data: *const u8, data_len: usize, values: *mut u64) -> u32;
 
     fn compared_checksum(input: *const u8, len: usize) -> u16;
+
+    fn compared_make(
+        mac: *mut u8,
+        id: *mut u16,
+        xid: *mut u32,
+        network: *mut u32,
+        lease_named: u32,
+    ) -> u32;
+
+    fn compared_make_over(
+        mac: *mut u8,
+        id: *mut u16,
+        xid: *mut u32,
+        network: *mut u32,
+        new_mac: *const u8,
+        asked: *const u32,
+        lease_named: u32,
+    ) -> u32;
 }
 
 /// What a call of ours answers, beside what it wrote.
@@ -86,13 +109,32 @@ pub struct Told {
 /// No call leaves these: each writes both values.
 const UNWRITTEN: [u64; 2] = [u64::MAX; 2];
 
+/// The network as it is lent.
+fn four_numbers(network: Network) -> [u32; 4] {
+    let [gateway, guest, mask] =
+        [network.gateway, network.guest, network.mask].map(u32::from_be_bytes);
+    [gateway, guest, mask, network.lease]
+}
+
+fn network_of(numbers: [u32; 4]) -> Network {
+    let [gateway, guest, mask] = [numbers[0], numbers[1], numbers[2]].map(u32::to_be_bytes);
+    Network {
+        gateway,
+        guest,
+        mask,
+        lease: numbers[3],
+    }
+}
+
 pub fn handle(record: Record, frame: &[u8], reply: &mut [u8]) -> Told {
     let (mut after, mut values) = (record, UNWRITTEN);
+    let mut network = four_numbers(record.network);
     let number = unsafe {
         compared_handle(
             after.mac.as_mut_ptr(),
             &mut after.id,
             &mut after.xid,
+            network.as_mut_ptr(),
             frame.as_ptr(),
             frame.len(),
             reply.as_mut_ptr(),
@@ -100,6 +142,7 @@ pub fn handle(record: Record, frame: &[u8], reply: &mut [u8]) -> Told {
             values.as_mut_ptr(),
         )
     };
+    after.network = network_of(network);
     Told {
         number,
         values,
@@ -110,7 +153,9 @@ pub fn handle(record: Record, frame: &[u8], reply: &mut [u8]) -> Told {
 /// A call of a builder. A datagram takes no id, so there the record is handed back as it is.
 pub fn built(record: Record, call: &Call, payload: &[u8], out: &mut [u8]) -> Told {
     let (mut after, mut values) = (record, UNWRITTEN);
+    let mut numbers = four_numbers(record.network);
     let (mac, id, xid) = (after.mac.as_mut_ptr(), &mut after.id, &mut after.xid);
+    let network = numbers.as_mut_ptr();
     let (bytes, len) = (payload.as_ptr(), payload.len());
     let (at, room, told) = (out.as_mut_ptr(), out.len(), values.as_mut_ptr());
     let number = unsafe {
@@ -124,6 +169,7 @@ pub fn built(record: Record, call: &Call, payload: &[u8], out: &mut [u8]) -> Tol
                 mac,
                 id,
                 xid,
+                network,
                 dst_mac.as_ptr(),
                 src_ip.as_ptr(),
                 dst_ip.as_ptr(),
@@ -148,6 +194,7 @@ pub fn built(record: Record, call: &Call, payload: &[u8], out: &mut [u8]) -> Tol
                 mac,
                 id,
                 xid,
+                network,
                 dst_mac.as_ptr(),
                 src.0.as_ptr(),
                 src.1,
@@ -164,6 +211,7 @@ pub fn built(record: Record, call: &Call, payload: &[u8], out: &mut [u8]) -> Tol
             ),
         }
     };
+    after.network = network_of(numbers);
     Told {
         number,
         values,
@@ -171,13 +219,14 @@ pub fn built(record: Record, call: &Call, payload: &[u8], out: &mut [u8]) -> Tol
     }
 }
 
-/// The reply takes its MAC and its xid from the record, and changes neither.
+/// The reply takes MAC, xid and network from the record, and changes none of them.
 pub fn dhcp_reply(record: Record, kind: u8, out: &mut [u8]) -> Told {
     let mut values = UNWRITTEN;
     let number = unsafe {
         compared_dhcp_reply(
             record.mac.as_ptr(),
             record.xid,
+            four_numbers(record.network).as_ptr(),
             kind,
             out.as_mut_ptr(),
             out.len(),
@@ -200,6 +249,42 @@ pub fn message_type(data: &[u8]) -> (u32, [u64; 2]) {
 
 pub fn checksum(input: &[u8]) -> u16 {
     unsafe { compared_checksum(input.as_ptr(), input.len()) }
+}
+
+/// A record made with this MAC and network, and the number told. The network's lease time is named where
+/// `lease_named` is not 0.
+pub fn make(mac: [u8; 6], network: Network, lease_named: u32) -> (u32, Record) {
+    let (id, xid) = (!0, !0);
+    let mut record = Record {
+        mac,
+        id,
+        xid,
+        network,
+    };
+    let mut lent = four_numbers(network);
+    let (mac, at) = (record.mac.as_mut_ptr(), lent.as_mut_ptr());
+    let number = unsafe { compared_make(mac, &mut record.id, &mut record.xid, at, lease_named) };
+    record.network = network_of(lent);
+    (number, record)
+}
+
+/// The same over an old record.
+pub fn make_over(old: Record, mac: [u8; 6], network: Network, lease_named: u32) -> (u32, Record) {
+    let mut record = old;
+    let mut lent = four_numbers(old.network);
+    let number = unsafe {
+        compared_make_over(
+            record.mac.as_mut_ptr(),
+            &mut record.id,
+            &mut record.xid,
+            lent.as_mut_ptr(),
+            mac.as_ptr(),
+            four_numbers(network).as_ptr(),
+            lease_named,
+        )
+    };
+    record.network = network_of(lent);
+    (number, record)
 }
 
 /// Bytes around what is lent, which no call may touch.

@@ -7,6 +7,7 @@ use crate::draws::GUEST_MAC;
 use crate::gateway_cases::{FRESH, USUAL_ROOM};
 use crate::guest_frames::{BODY_AT, PAYLOAD_AT};
 use crate::lines::hex;
+use crate::networks::{HERE, NUMBER};
 
 const LONGEST: Duration = Duration::from_secs(20);
 /// What `gwone` reads.
@@ -133,7 +134,9 @@ pub fn report(sides: &mut Sides, input: Input, difference: Difference) -> String
     );
     text += &call_text(&best, Some(difference.id));
     text += &format!("(shrunk from {first_len} bytes)\n");
-    if best.builder.is_none() && !shows_with_gwone {
+    if NUMBER != 0 {
+        text += &format!("(on {HERE:?})\n");
+    } else if best.builder.is_none() && !shows_with_gwone {
         text += &format!(
             "(gwone has mac {}, id 1, xid 0, a room of {USUAL_ROOM} and reads at most {MOST_READ} bytes: with these it does not show)\n",
             hex(&GUEST_MAC)
@@ -142,7 +145,8 @@ pub fn report(sides: &mut Sides, input: Input, difference: Difference) -> String
     text
 }
 
-/// The call: a builder's with its payload, or the line for the shell that hands the frame to `gwone`.
+/// The call: a builder's with its payload, or the line for the shell that hands the frame to `gwone`;
+/// on another network than `gwone`'s that line only prints the frame.
 pub fn call_text(input: &Input, id: Option<u16>) -> String {
     let id = id.map_or(String::new(), |id| format!(" id {id},"));
     let mut text = format!(
@@ -154,7 +158,8 @@ pub fn call_text(input: &Input, id: Option<u16>) -> String {
     );
     let (builder, bytes) = (&input.builder, &input.bytes[..]);
     let Some(builder) = builder else {
-        return text + &format!("{} | ./gwone\n", printed(bytes));
+        let to_gwone = if NUMBER == 0 { " | ./gwone" } else { "" };
+        return text + &format!("{}{to_gwone}\n", printed(bytes));
     };
     text += &format!("call: {builder:?}\n");
     text + &match bytes {
