@@ -60,3 +60,15 @@ module _ {S C A G : Type 0} (Keeps : S → C → Type 0) (after : C → S) (aske
       let alone′ = subst (λ (x : S). Runs Keeps after x (callsOf who guest calls′)) (sym e) (as-if-alone Keeps after who host′ calls′ guest t) in
       let same = alone-answers-once (host guest) (callsOf who guest calls) (callsOf who guest calls′) g alone alone′ a in
       (same .0, rw (left-alone Keeps after who host calls guest, left-alone Keeps after who host′ calls′ guest, sym e) (same .1))
+
+-- What every call keeps holds behind any run of them.
+module _ {S C : Type 0} (Keeps : S → C → Type 0) (after : C → S) (Holds : S → Type 0) (kept : (state : S) (call : C) → Holds state → Keeps state call → Holds (after call)) where
+  holds-after : (state : S) (calls : List C) → Holds state → Runs Keeps after state calls → Holds (leaves Keeps after state calls)
+  holds-after state [] h r = h
+  holds-after state (call ∷ rest) h (keeps, then) = holds-after (after call) rest (kept state call h keeps) then
+
+  -- of a guest among others, whatever these ask
+  pub holds-throughout : (who : C → ℕ) (host : ℕ → S) (calls : List C) (guest : ℕ) → Holds (host guest) → Serves Keeps after who host calls
+      → Holds (leavesAll Keeps after who host calls guest)
+  holds-throughout who host calls guest h s =
+      subst Holds (sym (left-alone Keeps after who host calls guest)) (holds-after (host guest) (callsOf who guest calls) h (as-if-alone Keeps after who host calls guest s))

@@ -10,30 +10,31 @@ use Rattle.dhcp_reply.specs.Reply.{replySource, replyTarget, dhcpFrame, 
 use Rattle.dhcp_message.proofs.ReadBack.{ReplyOf, reply-reads-back}
 use Rattle.frames.proofs.Lengths.{length-datagram}
 use Rattle.frames.proofs.ReadBack.{DatagramOf, datagram-reads-back, FrameOf, frame-of}
-use Rattle.record.specs.Network.{broadcastOf, FourBytes}
+use Rattle.record.specs.Guest.{Sized}
+use Rattle.record.specs.Network.{broadcastOf}
 use Rattle.record.specs.declared.guest.Guest.{Guest}
-use Rattle.record.specs.declared.network.Network.{Network}
 use Rattle.wire.specs.Rfc768.{datagram}
 use Rattle.wire.specs.Rfc894.{sourceMac}
 
 -- the frame of a DHCP reply goes to the sender's MAC and the broadcast address, and holds the reply in its datagram
-pub record AnswersDhcp (answer : List ℕ) (net : Network) (guest : Guest) (frame : List ℕ) (xid type : ℕ) : Type 0 where
-  pub framed : FrameOf answer (sourceMac frame) (net .gateway) (broadcastOf net) (guest .id) 17 (datagram replySource replyTarget (reply net (guest .mac) xid type))
+pub record AnswersDhcp (answer : List ℕ) (guest : Guest) (frame : List ℕ) (xid type : ℕ) : Type 0 where
+  pub framed : FrameOf answer (sourceMac frame) (guest .network .gateway) (broadcastOf (guest .network)) (guest .id) 17 (datagram replySource replyTarget (reply (guest .network) (guest .mac) xid type))
   pub long : length answer ≡ 342
   pub in-datagram : DatagramOf (drop 34 answer) replySource replyTarget
-  pub message : ReplyOf (drop 42 answer) net (guest .mac) xid type
+  pub message : ReplyOf (drop 42 answer) (guest .network) (guest .mac) xid type
 
-pub dhcp-reads-back : (net : Network) (guest : Guest) (frame : List ℕ) (xid type : ℕ) → FourBytes net → length (guest .mac) ≡ 6
-    → AnswersDhcp (dhcpFrame net guest frame xid type) net guest frame xid type
+pub dhcp-reads-back : (guest : Guest) (frame : List ℕ) (xid type : ℕ) → Sized guest
+    → AnswersDhcp (dhcpFrame guest frame xid type) guest frame xid type
 unfolding dhcpFrameTo datagram
-dhcp-reads-back net guest frame xid type four six =
+dhcp-reads-back guest frame xid type sized =
+    let net = guest .network in
     let d = datagram replySource replyTarget (reply net (guest .mac) xid type) in
-    let f = frame-of (sourceMac frame) (net .gateway) (broadcastOf net) (guest .id) 17 d refl (four .gateway) refl in
-    let inner : drop 42 (dhcpFrame net guest frame xid type) ≡ reply net (guest .mac) xid type =
-    sym (drop-drop 8 34 (dhcpFrame net guest frame xid type)) ∙ ap (drop 8) (f .carried) in
+    let f = frame-of (sourceMac frame) (net .gateway) (broadcastOf net) (guest .id) 17 d refl (sized .network .gateway) refl in
+    let inner : drop 42 (dhcpFrame guest frame xid type) ≡ reply net (guest .mac) xid type =
+    sym (drop-drop 8 34 (dhcpFrame guest frame xid type)) ∙ ap (drop 8) (f .carried) in
     record {
       framed = f;
-      long = omega (arith, f .long, length-datagram replySource replyTarget (reply net (guest .mac) xid type), reply-reads-back net (guest .mac) xid type four six .long);
+      long = omega (arith, f .long, length-datagram replySource replyTarget (reply net (guest .mac) xid type), reply-reads-back net (guest .mac) xid type (sized .network) (sized .mac) .long);
       in-datagram = rw (f .carried) (datagram-reads-back replySource replyTarget (reply net (guest .mac) xid type));
-      message = rw inner (reply-reads-back net (guest .mac) xid type four six);
+      message = rw inner (reply-reads-back net (guest .mac) xid type (sized .network) (sized .mac));
     }

@@ -7,7 +7,7 @@ use lib.ListN.{length, drop, getD}
 use Rattle.record.proofs.OneAnswer.{one-outcome, verdictOf}
 use Rattle.record.specs.Answer.{Meets, Outcome, Writing, paper}
 use Rattle.record.specs.Guest.{known}
-use Rattle.record.specs.Network.{network}
+use Rattle.record.specs.Network.{document01}
 use mathlib.Core.Bool.{cond}
 use Rattle.record.specs.declared.answer.Answer.{Answer}
 use Rattle.record.specs.declared.guest.Guest.{Guest}
@@ -67,8 +67,8 @@ report-back before Outside = refl
 
 -- Two answers of `send`.
 pub send-answers-once : (guest : Guest) (frame before after after′ : List ℕ) (v v′ : Verdict) (g g′ : Guest)
-    → Meets (outcome network guest frame (length before)) before after (record { verdict = v; guest = g })
-    → Meets (outcome network guest frame (length before)) before after′ (record { verdict = v′; guest = g′ }) → (v ≡ v′) × (g ≡ g′) × (after ≡ after′)
+    → Meets (outcome guest frame (length before)) before after (record { verdict = v; guest = g })
+    → Meets (outcome guest frame (length before)) before after′ (record { verdict = v′; guest = g′ }) → (v ≡ v′) × (g ≡ g′) × (after ≡ after′)
 send-answers-once guest frame before after after′ v v′ g g′ m m′ =
     let same = one-outcome _ before after after′ _ _ m m′ in
     (ap (λ (a : Answer). a .verdict) (same .0), ap (λ (a : Answer). a .guest) (same .0), same .1)
@@ -90,7 +90,7 @@ module _ (before after after′ : List ℕ) (n n′ : ℕ) (vs vs′ : List ℕ)
   pub built-answers-once : (lent i i′ : ℕ) (made : Guest → Outcome) → Built lent made before after n vs i → Built lent made before after′ n′ vs′ i′
       → (n ≡ n′) × (vs ≡ vs′) × (after ≡ after′) × (i ≡ i′)
   built-answers-once lent i i′ made t t′ =
-      let some : Guest = known [] lent 0 in
+      let some : Guest = known [] lent 0 document01 in
       let same = one-telling (made some .writing) (t .told some refl) (t′ .told some refl) in
       (same .0, same .1, same .2, t .id some refl ∙ sym (t′ .id some refl))
 

@@ -2,7 +2,7 @@
 // `include/yavoledu.h` has the exported functions as C sees them. No function has a `requires`.
 mod builders;
 mod entry;
-mod making;
+mod maker;
 mod reading;
 mod reassembly;
 

@@ -1,4 +1,4 @@
--- Demand 1, of whatever meets the contract of `handle_on`, and so of `handle`: one answer of the numbers 0 to 7, what it says and what it changes, by the
+-- Demand 1, of whatever meets the contract of `handle`: one answer of the numbers 0 to 7, what it says and what it changes, by the
 -- decision behind it. "Exactly" is said of 1, 4, 5 and 6; of the others the contract says it.
 use Prim.Native.Nat.{ℕ, _+_, _≤_, _<_}
 use mathlib.Core.Path.{_≡_, refl, ap, sym, subst, _∙_}
@@ -9,10 +9,9 @@ use borrow.Author.Tests.{ltb-true, ltb-false}
 use lib.Dec.{ltb}
 use lib.ListN.{length, getD, take, drop}
 use lib.Seq.{take-append-seam, drop-append-seam}
-use Rattle.record.specs.Network.{FourBytes}
 use Rattle.record.specs.Answer.{paper, Meets}
-use Rattle.record.specs.Guest.{spent}
-use Rattle.record.specs.Network.{network}
+use Rattle.record.specs.Guest.{Sized, spent}
+use Rattle.record.specs.Network.{FourBytes}
 use Rattle.record.specs.declared.answer.Answer.{Answer}
 use Rattle.record.specs.declared.guest.Guest.{Guest}
 use Rattle.record.specs.declared.answer.Verdict.{Verdict}
@@ -31,7 +30,7 @@ use Rattle.echo_reply.proofs.Echo.{length-echo}
 use Rattle.arp_reply.proofs.ReadBack.{arp-reads-back}
 use Rattle.echo_reply.proofs.ReadBack.{echo-frame-reads-back}
 use Rattle.dhcp_reply.proofs.FrameReadBack.{dhcp-reads-back}
-use Rattle.laws.specs.Table.{built, replyAtAmpleRoom, Returned, Unchanged, kept, noted, AtMostXid, ReplyBytesIdXid, Changed}
+use Rattle.laws.specs.Table.{built, replyAtAmpleRoom, Returned, Settled, Unchanged, XidAtMost, kept, noted, AtMostXid, ReplyBytesIdXid, Changed}
 use Rattle.base.proofs.Choice.{by-test}
 
 -- every answer has a number, and it is one of 0 to 7 (where there were none, this would read 8)
@@ -63,20 +62,45 @@ framed guest next need image before after answer e p m =
     let m′ = rw f at m in
     fits (omega (arith, e, p)) (omega (arith, ltb-false (length before) need f, e)) (paper-one-to-one _ (Verdict.Reply (length image)) (m′ .wrote .numbers ∙ ap (λ (n : ℕ). 1 ∷ n ∷ []) (sym e))) (m′ .guest) (m′ .wrote .bytes))
 
+-- a record keeps the lengths of its arrays
+pub still-sized : {guest next : Guest} → Settled guest next → Sized guest → Sized next
+still-sized s sized = record { mac = ap length (s .mac-kept) ∙ sized .mac; network = subst FourBytes (sym (s .network-kept)) (sized .network) }
+
+same-settled : {guest next : Guest} → next ≡ guest → Settled guest next
+same-settled e = record { mac-kept = ap (λ (x : Guest). x .mac) e; network-kept = ap (λ (x : Guest). x .network) e }
+
+-- every row of the table leaves MAC and network alone
+always-settled : (frame : List ℕ) (guest next : Guest) (before after : List ℕ) (v : Verdict) → Changed frame v guest next before after → Settled guest next
+always-settled frame guest next before after Verdict.Drop c = go (c .kept-but-xid)
+  where
+    go : XidAtMost frame guest next → Settled guest next
+    go (kept e) = same-settled e
+    go (noted xid m e) = record { mac-kept = ap (λ (x : Guest). x .mac) e; network-kept = ap (λ (x : Guest). x .network) e }
+always-settled frame guest next before after (Verdict.Reply n) c = c .settled
+always-settled frame guest next before after (Verdict.Dns start len) c = same-settled (c .kept)
+always-settled frame guest next before after (Verdict.Relay start len) c = same-settled (c .kept)
+always-settled frame guest next before after (Verdict.Tcp len) c = same-settled (c .kept)
+always-settled frame guest next before after (Verdict.NoRoom needed) c = same-settled (c .kept)
+always-settled frame guest next before after (Verdict.TooLong len) c = same-settled (c .kept)
+always-settled frame guest next before after (Verdict.CutType place) c = same-settled (c .kept)
+
 -- nothing is written
 record Quiet (v : Verdict) (next : Guest) (before after : List ℕ) (answer : Answer) : Type 0 where
   verdict-is : answer .verdict ≡ v
   guest-is : answer .guest ≡ next
   untouched : after ≡ before
 
-module _ (net : Network) (guest : Guest) (frame before after : List ℕ) (answer : Answer) where
+module _ (guest : Guest) (frame before after : List ℕ) (answer : Answer) where
+  abbrev net : Network
+  net = guest .network
+
   -- the answer, by the decision behind it
   Came : Decision → Type 0
   Came Drop = Quiet Verdict.Drop guest before after answer
   Came (DropNoting xid) = Quiet Verdict.Drop (noting xid guest) before after answer
-  Came ArpReply = Framed guest guest (built net guest frame ArpReply) before after answer
-  Came (EchoReply start) = Framed guest (spent guest) (built net guest frame (EchoReply start)) before after answer
-  Came (DhcpReply xid type) = Framed guest (spent (noting xid guest)) (built net guest frame (DhcpReply xid type)) before after answer
+  Came ArpReply = Framed guest guest (built guest frame ArpReply) before after answer
+  Came (EchoReply start) = Framed guest (spent guest) (built guest frame (EchoReply start)) before after answer
+  Came (DhcpReply xid type) = Framed guest (spent (noting xid guest)) (built guest frame (DhcpReply xid type)) before after answer
   Came (Dns start len) = Quiet (Verdict.Dns start len) guest before after answer
   Came (Relay start len) = Quiet (Verdict.Relay start len) guest before after answer
   Came (Tcp len) = Quiet (Verdict.Tcp len) guest before after answer
@@ -86,17 +110,17 @@ module _ (net : Network) (guest : Guest) (frame before after : List ℕ) (answer
   quiet : (v : Verdict) (next : Guest) → Meets (unwritten (paper v) next) before after answer → Quiet v next before after answer
   quiet v next m = record { verdict-is = paper-one-to-one _ v (m .wrote .numbers); guest-is = m .guest; untouched = m .wrote .bytes }
 
-  module _ (four : FourBytes net) (six : length (guest .mac) ≡ 6) where
-    came : (d : Decision) → Says net frame d → Meets (outcomeOf net guest frame (length before) d) before after answer → Came d
+  module _ (sized : Sized guest) where
+    came : (d : Decision) → Says net frame d → Meets (outcomeOf guest frame (length before) d) before after answer → Came d
     unfolding Came outcomeOf Says paper
     came Drop s m = quiet Verdict.Drop guest m
     came (DropNoting xid) s m = quiet Verdict.Drop (noting xid guest) m
-    came ArpReply s m = framed guest guest 42 _ before after answer (arp-reads-back net frame (four .gateway) .long) (omega arith) m
+    came ArpReply s m = framed guest guest 42 _ before after answer (arp-reads-back net frame (sized .network .gateway) .long) (omega arith) m
     came (EchoReply start) s m =
         let eight = subst (λ (n : ℕ). 8 ≤ length (drop n frame)) (sym (s .1)) (s .0 .whole) in
         framed guest (spent guest) _ _ before after answer
-        (echo-frame-reads-back net (guest .id) frame (echo (drop start frame)) (four .gateway) .long ∙ ap (λ (n : ℕ). 34 + n) (length-echo (drop start frame) (omega (arith, eight)))) (omega arith) m
-    came (DhcpReply xid type) s m = framed guest (spent (noting xid guest)) 342 _ before after answer (dhcp-reads-back net guest frame xid type four six .long) (omega arith) m
+        (echo-frame-reads-back net (guest .id) frame (echo (drop start frame)) (sized .network .gateway) .long ∙ ap (λ (n : ℕ). 34 + n) (length-echo (drop start frame) (omega (arith, eight)))) (omega arith) m
+    came (DhcpReply xid type) s m = framed guest (spent (noting xid guest)) 342 _ before after answer (dhcp-reads-back guest frame xid type sized .long) (omega arith) m
     came (Dns start len) s m = quiet (Verdict.Dns start len) guest m
     came (Relay start len) s m = quiet (Verdict.Relay start len) guest m
     came (Tcp len) s m = quiet (Verdict.Tcp len) guest m
@@ -118,19 +142,19 @@ module _ (net : Network) (guest : Guest) (frame before after : List ℕ) (answer
   at : {v : Verdict} → answer .verdict ≡ v → Changed frame v guest (answer .guest) before after → Changed frame (answer .verdict) guest (answer .guest) before after
   at e = subst (λ (x : Verdict). Changed frame x guest (answer .guest) before after) (sym e)
 
-  told : {v : Verdict} → answer .verdict ≡ v → Returned net guest frame before after v → Returned net guest frame before after (answer .verdict)
-  told e = subst (λ (x : Verdict). Returned net guest frame before after x) (sym e)
+  told : {v : Verdict} → answer .verdict ≡ v → Returned guest frame before after v → Returned guest frame before after (answer .verdict)
+  told e = subst (λ (x : Verdict). Returned guest frame before after x) (sym e)
 
   changed-by : (d : Decision) → Says net frame d → Came d → Changed frame (answer .verdict) guest (answer .guest) before after
   unfolding Came Says
   changed-by Drop s c = at (c .verdict-is) (record { kept-but-xid = kept (c .guest-is); untouched = c .untouched })
   changed-by (DropNoting xid) s c = at (c .verdict-is) (record { kept-but-xid = noted xid s (c .guest-is); untouched = c .untouched })
   changed-by ArpReply s c =
-      framed-changed guest (built net guest frame ArpReply)
+      framed-changed guest (built guest frame ArpReply)
       (λ rest g.
       record {
         rest-untouched = rest;
-        mac-kept = ap (λ (x : Guest). x .mac) g;
+        settled = record { mac-kept = ap (λ (x : Guest). x .mac) g; network-kept = ap (λ (x : Guest). x .network) g };
         arp-or-ipv4 = λ n. absurd (n (s .0));
         arp-keeps-all = λ t. g;
         ipv4-takes-id = λ t. absurd (omega (arith, t, s .0));
@@ -139,11 +163,11 @@ module _ (net : Network) (guest : Guest) (frame before after : List ℕ) (answer
       })
       c
   changed-by (EchoReply start) s c =
-      framed-changed (spent guest) (built net guest frame (EchoReply start))
+      framed-changed (spent guest) (built guest frame (EchoReply start))
       (λ rest g.
       record {
         rest-untouched = rest;
-        mac-kept = ap (λ (x : Guest). x .mac) g;
+        settled = record { mac-kept = ap (λ (x : Guest). x .mac) g; network-kept = ap (λ (x : Guest). x .network) g };
         arp-or-ipv4 = λ n. s .0 .icmp .ipv4;
         arp-keeps-all = λ t. absurd (omega (arith, t, s .0 .icmp .ipv4));
         ipv4-takes-id = λ t. ap (λ (x : Guest). x .id) g;
@@ -152,11 +176,11 @@ module _ (net : Network) (guest : Guest) (frame before after : List ℕ) (answer
       })
       c
   changed-by (DhcpReply xid type) s c =
-      framed-changed (spent (noting xid guest)) (built net guest frame (DhcpReply xid type))
+      framed-changed (spent (noting xid guest)) (built guest frame (DhcpReply xid type))
       (λ rest g.
       record {
         rest-untouched = rest;
-        mac-kept = ap (λ (x : Guest). x .mac) g;
+        settled = record { mac-kept = ap (λ (x : Guest). x .mac) g; network-kept = ap (λ (x : Guest). x .network) g };
         arp-or-ipv4 = λ n. s .0 .datagram .udp .ipv4;
         arp-keeps-all = λ t. absurd (omega (arith, t, s .0 .datagram .udp .ipv4));
         ipv4-takes-id = λ t. ap (λ (x : Guest). x .id) g;
@@ -171,18 +195,18 @@ module _ (net : Network) (guest : Guest) (frame before after : List ℕ) (answer
   changed-by (CutType place) s c = at (c .verdict-is) (unchanged (Verdict.CutType place) c)
 
   -- what a frame that is to be built returns
-  framed-returned : (next : Guest) (image : List ℕ) → replyAtAmpleRoom net guest frame ≡ image → Framed guest next image before after answer
-      → Returned net guest frame before after (answer .verdict)
+  framed-returned : (next : Guest) (image : List ℕ) → replyAtAmpleRoom guest frame ≡ image → Framed guest next image before after answer
+      → Returned guest frame before after (answer .verdict)
   framed-returned next image e (short r v g b) = told v (ap length (sym e), r)
   framed-returned next image e (fits p r v g b) = told v (p, ap length (sym e), r, ap (take (length image)) b ∙ take-append-seam image (drop (length image) before) ∙ sym e)
 
-  returned-by : (d : Decision) → decision net frame ≡ d → Says net frame d → Came d → Returned net guest frame before after (answer .verdict)
+  returned-by : (d : Decision) → decision net frame ≡ d → Says net frame d → Came d → Returned guest frame before after (answer .verdict)
   unfolding Came Says replyAtAmpleRoom
   returned-by Drop e s c = told (c .verdict-is) tt
   returned-by (DropNoting xid) e s c = told (c .verdict-is) tt
-  returned-by ArpReply e s c = framed-returned guest _ (ap (built net guest frame) e) c
-  returned-by (EchoReply start) e s c = framed-returned (spent guest) _ (ap (built net guest frame) e) c
-  returned-by (DhcpReply xid type) e s c = framed-returned (spent (noting xid guest)) _ (ap (built net guest frame) e) c
+  returned-by ArpReply e s c = framed-returned guest _ (ap (built guest frame) e) c
+  returned-by (EchoReply start) e s c = framed-returned (spent guest) _ (ap (built guest frame) e) c
+  returned-by (DhcpReply xid type) e s c = framed-returned (spent (noting xid guest)) _ (ap (built guest frame) e) c
   returned-by (Dns start len) e s c = told (c .verdict-is) s
   returned-by (Relay start len) e s c = told (c .verdict-is) s
   returned-by (Tcp len) e s c = told (c .verdict-is) s
@@ -191,14 +215,14 @@ module _ (net : Network) (guest : Guest) (frame before after : List ℕ) (answer
 
   -- which of 5 and 1 it is, by the room
   record ByRoom : Type 0 where
-    none-if-short : length before < length (replyAtAmpleRoom net guest frame) → answer .verdict ≡ Verdict.NoRoom (length (replyAtAmpleRoom net guest frame))
-    reply-if-fits : 0 < length (replyAtAmpleRoom net guest frame) → length (replyAtAmpleRoom net guest frame) ≤ length before
-        → answer .verdict ≡ Verdict.Reply (length (replyAtAmpleRoom net guest frame))
+    none-if-short : length before < length (replyAtAmpleRoom guest frame) → answer .verdict ≡ Verdict.NoRoom (length (replyAtAmpleRoom guest frame))
+    reply-if-fits : 0 < length (replyAtAmpleRoom guest frame) → length (replyAtAmpleRoom guest frame) ≤ length before
+        → answer .verdict ≡ Verdict.Reply (length (replyAtAmpleRoom guest frame))
 
-  no-reply : replyAtAmpleRoom net guest frame ≡ [] → ByRoom
+  no-reply : replyAtAmpleRoom guest frame ≡ [] → ByRoom
   no-reply e = let z = ap length e in record { none-if-short = λ r. absurd (omega (arith, z, r)); reply-if-fits = λ p r. absurd (omega (arith, z, p)) }
 
-  framed-by-room : (next : Guest) (image : List ℕ) → replyAtAmpleRoom net guest frame ≡ image → Framed guest next image before after answer → ByRoom
+  framed-by-room : (next : Guest) (image : List ℕ) → replyAtAmpleRoom guest frame ≡ image → Framed guest next image before after answer → ByRoom
   framed-by-room next image e (short r v g b) =
       let z = ap length e in
       record { none-if-short = λ h. v ∙ ap Verdict.NoRoom (sym z); reply-if-fits = λ p h. absurd (omega (arith, z, h, r)) }
@@ -208,37 +232,44 @@ module _ (net : Network) (guest : Guest) (frame before after : List ℕ) (answer
 
   by-room : (d : Decision) → decision net frame ≡ d → Came d → ByRoom
   unfolding Came replyAtAmpleRoom
-  by-room ArpReply e c = framed-by-room guest _ (ap (built net guest frame) e) c
-  by-room (EchoReply start) e c = framed-by-room (spent guest) _ (ap (built net guest frame) e) c
-  by-room (DhcpReply xid type) e c = framed-by-room (spent (noting xid guest)) _ (ap (built net guest frame) e) c
-  by-room Drop e c = no-reply (ap (built net guest frame) e)
-  by-room (DropNoting xid) e c = no-reply (ap (built net guest frame) e)
-  by-room (Dns start len) e c = no-reply (ap (built net guest frame) e)
-  by-room (Relay start len) e c = no-reply (ap (built net guest frame) e)
-  by-room (Tcp len) e c = no-reply (ap (built net guest frame) e)
-  by-room (TooLong len) e c = no-reply (ap (built net guest frame) e)
-  by-room (CutType place) e c = no-reply (ap (built net guest frame) e)
+  by-room ArpReply e c = framed-by-room guest _ (ap (built guest frame) e) c
+  by-room (EchoReply start) e c = framed-by-room (spent guest) _ (ap (built guest frame) e) c
+  by-room (DhcpReply xid type) e c = framed-by-room (spent (noting xid guest)) _ (ap (built guest frame) e) c
+  by-room Drop e c = no-reply (ap (built guest frame) e)
+  by-room (DropNoting xid) e c = no-reply (ap (built guest frame) e)
+  by-room (Dns start len) e c = no-reply (ap (built guest frame) e)
+  by-room (Relay start len) e c = no-reply (ap (built guest frame) e)
+  by-room (Tcp len) e c = no-reply (ap (built guest frame) e)
+  by-room (TooLong len) e c = no-reply (ap (built guest frame) e)
+  by-room (CutType place) e c = no-reply (ap (built guest frame) e)
 
--- The gateway's promise, for every frame and buffer, and every network and record whose arrays have the lengths that their types say.
-module _ (net : Network) (guest : Guest) (frame before after : List ℕ) (answer : Answer) (four : FourBytes net) (six : length (guest .mac) ≡ 6)
-    (m : Meets (outcome net guest frame (length before)) before after answer) where
-  it-came : Came net guest frame before after answer (decision net frame)
+-- The gateway's promise, for every frame and buffer, and every record whose arrays have the lengths that their types say.
+module _ (guest : Guest) (frame before after : List ℕ) (answer : Answer) (sized : Sized guest)
+    (m : Meets (outcome guest frame (length before)) before after answer) where
+  abbrev its-network : Network
+  its-network = guest .network
+
+  it-came : Came guest frame before after answer (decision its-network frame)
   unfolding outcome
-  it-came = came net guest frame before after answer four six (decision net frame) (says net frame) m
+  it-came = came guest frame before after answer sized (decision its-network frame) (says its-network frame) m
 
   -- nothing has changed but what the table names: on 5, 6, 7 and on 2, 3, 4 nothing at all
   pub only-what-is-named : Changed frame (answer .verdict) guest (answer .guest) before after
-  only-what-is-named = changed-by net guest frame before after answer (decision net frame) (says net frame) it-came
+  only-what-is-named = changed-by guest frame before after answer (decision its-network frame) (says its-network frame) it-came
+
+  -- whatever the answer, MAC and network are as they were
+  pub settled : Settled guest (answer .guest)
+  settled = always-settled frame guest (answer .guest) before after (answer .verdict) only-what-is-named
 
   -- the values returned are the table's
-  pub returned-values : Returned net guest frame before after (answer .verdict)
-  returned-values = returned-by net guest frame before after answer (decision net frame) refl (says net frame) it-came
+  pub returned-values : Returned guest frame before after (answer .verdict)
+  returned-values = returned-by guest frame before after answer (decision its-network frame) refl (says its-network frame) it-came
 
   -- the row of the table that the numbers name
-  row : (v : Verdict) → paper (answer .verdict) ≡ paper v → Changed frame v guest (answer .guest) before after × Returned net guest frame before after v
+  row : (v : Verdict) → paper (answer .verdict) ≡ paper v → Changed frame v guest (answer .guest) before after × Returned guest frame before after v
   row v e =
       let same = paper-one-to-one (answer .verdict) v e in
-      (subst (λ (x : Verdict). Changed frame x guest (answer .guest) before after) same only-what-is-named, subst (λ (x : Verdict). Returned net guest frame before after x) same returned-values)
+      (subst (λ (x : Verdict). Changed frame x guest (answer .guest) before after) same only-what-is-named, subst (λ (x : Verdict). Returned guest frame before after x) same returned-values)
 
   -- 0 changes at most xid, and that on a DHCP message alone
   pub on-zero : paper (answer .verdict) ≡ 0 ∷ [] → AtMostXid frame guest (answer .guest) before after
@@ -248,16 +279,16 @@ module _ (net : Network) (guest : Guest) (frame before after : List ℕ) (answer
   -- 1 with n: the reply's n bytes stand in the buffer's front; id on IPv4, xid on DHCP, and nothing else
   pub on-one : (n : ℕ) → paper (answer .verdict) ≡ 1 ∷ n ∷ []
       → ReplyBytesIdXid frame n guest (answer .guest) before after
-      × ((0 < n) × (n ≡ length (replyAtAmpleRoom net guest frame)) × (n ≤ length before) × (take n after ≡ replyAtAmpleRoom net guest frame))
+      × ((0 < n) × (n ≡ length (replyAtAmpleRoom guest frame)) × (n ≤ length before) × (take n after ≡ replyAtAmpleRoom guest frame))
   unfolding paper
   on-one n e = row (Verdict.Reply n) e
 
   -- 2 and 3 hand out the part of the frame that is the datagram's data, and change nothing
-  pub on-two : (start len : ℕ) → paper (answer .verdict) ≡ 2 ∷ start ∷ len ∷ [] → Unchanged guest (answer .guest) before after × Query net frame start len
+  pub on-two : (start len : ℕ) → paper (answer .verdict) ≡ 2 ∷ start ∷ len ∷ [] → Unchanged guest (answer .guest) before after × Query its-network frame start len
   unfolding paper
   on-two start len e = row (Verdict.Dns start len) e
 
-  pub on-three : (start len : ℕ) → paper (answer .verdict) ≡ 3 ∷ start ∷ len ∷ [] → Unchanged guest (answer .guest) before after × Outbound net frame start len
+  pub on-three : (start len : ℕ) → paper (answer .verdict) ≡ 3 ∷ start ∷ len ∷ [] → Unchanged guest (answer .guest) before after × Outbound its-network frame start len
   unfolding paper
   on-three start len e = row (Verdict.Relay start len) e
 
@@ -268,12 +299,12 @@ module _ (net : Network) (guest : Guest) (frame before after : List ℕ) (answer
 
   -- 5 with n: the room is less than n, the reply's length at ample room, and nothing changes
   pub on-five : (n : ℕ) → paper (answer .verdict) ≡ 5 ∷ n ∷ []
-      → Unchanged guest (answer .guest) before after × ((n ≡ length (replyAtAmpleRoom net guest frame)) × (length before < n))
+      → Unchanged guest (answer .guest) before after × ((n ≡ length (replyAtAmpleRoom guest frame)) × (length before < n))
   unfolding paper
   on-five n e = row (Verdict.NoRoom n) e
 
   -- 6 with n: a ping to the gateway whose payload has n bytes, more than 65,515, and nothing changes
-  pub on-six : (n : ℕ) → paper (answer .verdict) ≡ 6 ∷ n ∷ [] → Unchanged guest (answer .guest) before after × TooLongPing net frame n
+  pub on-six : (n : ℕ) → paper (answer .verdict) ≡ 6 ∷ n ∷ [] → Unchanged guest (answer .guest) before after × TooLongPing its-network frame n
   unfolding paper
   on-six n e = row (Verdict.TooLong n) e
 
@@ -283,37 +314,37 @@ module _ (net : Network) (guest : Guest) (frame before after : List ℕ) (answer
   on-seven place e = row (Verdict.CutType place) e
 
   -- and exactly so: a frame is to be built and the room is less than it: 5
-  pub five-if-short : length before < length (replyAtAmpleRoom net guest frame) → paper (answer .verdict) ≡ 5 ∷ length (replyAtAmpleRoom net guest frame) ∷ []
+  pub five-if-short : length before < length (replyAtAmpleRoom guest frame) → paper (answer .verdict) ≡ 5 ∷ length (replyAtAmpleRoom guest frame) ∷ []
   unfolding paper
-  five-if-short r = ap paper (by-room net guest frame before after answer (decision net frame) refl it-came .none-if-short r)
+  five-if-short r = ap paper (by-room guest frame before after answer (decision its-network frame) refl it-came .none-if-short r)
 
   -- a frame is to be built and there is room for it: 1
-  pub one-if-room : 0 < length (replyAtAmpleRoom net guest frame) → length (replyAtAmpleRoom net guest frame) ≤ length before
-      → paper (answer .verdict) ≡ 1 ∷ length (replyAtAmpleRoom net guest frame) ∷ []
+  pub one-if-room : 0 < length (replyAtAmpleRoom guest frame) → length (replyAtAmpleRoom guest frame) ≤ length before
+      → paper (answer .verdict) ≡ 1 ∷ length (replyAtAmpleRoom guest frame) ∷ []
   unfolding paper
-  one-if-room p r = ap paper (by-room net guest frame before after answer (decision net frame) refl it-came .reply-if-fits p r)
+  one-if-room p r = ap paper (by-room guest frame before after answer (decision its-network frame) refl it-came .reply-if-fits p r)
 
   -- TCP: 4
   pub four-if-tcp : Carries frame 6 → paper (answer .verdict) ≡ 4 ∷ length frame ∷ []
   unfolding outcome outcomeOf
-  four-if-tcp c = (rw (tcp-decided net frame c) at m) .wrote .numbers
+  four-if-tcp c = (rw (tcp-decided its-network frame c) at m) .wrote .numbers
 
   -- a ping within the length is to get its echo: 1 or 5, by the room
-  pub ping-is-to-be-answered : EchoAsked net frame → length (payload frame) ≤ 65515
-      → replyAtAmpleRoom net guest frame ≡ built net guest frame (EchoReply (payloadAt frame))
+  pub ping-is-to-be-answered : EchoAsked its-network frame → length (payload frame) ≤ 65515
+      → replyAtAmpleRoom guest frame ≡ built guest frame (EchoReply (payloadAt frame))
   unfolding replyAtAmpleRoom
-  ping-is-to-be-answered a within = ap (built net guest frame) (echo-answered net frame a within)
+  ping-is-to-be-answered a within = ap (built guest frame) (echo-answered its-network frame a within)
 
   -- a ping past the length: 6, whatever the room, so before 5
-  pub six-if-too-long : EchoAsked net frame → 65515 < length (payload frame) → paper (answer .verdict) ≡ 6 ∷ length (payload frame) ∷ []
+  pub six-if-too-long : EchoAsked its-network frame → 65515 < length (payload frame) → paper (answer .verdict) ≡ 6 ∷ length (payload frame) ∷ []
   unfolding outcome outcomeOf
-  six-if-too-long a over = (rw (too-long-decided net frame a over) at m) .wrote .numbers
+  six-if-too-long a over = (rw (too-long-decided its-network frame a over) at m) .wrote .numbers
 
 -- the n of 5 is the n of the same call with room
-pub needed-is-n : (net : Network) (guest : Guest) (frame before after before′ after′ : List ℕ) (answer answer′ : Answer) (n : ℕ) → FourBytes net → length (guest .mac) ≡ 6
-    → Meets (outcome net guest frame (length before)) before after answer → paper (answer .verdict) ≡ 5 ∷ n ∷ []
-    → n ≤ length before′ → Meets (outcome net guest frame (length before′)) before′ after′ answer′ → paper (answer′ .verdict) ≡ 1 ∷ n ∷ []
-needed-is-n net guest frame before after before′ after′ answer answer′ n four six m e r m′ =
-    let five = on-five net guest frame before after answer four six m n e .1 in
-    one-if-room net guest frame before′ after′ answer′ four six m′ (omega (arith, five .0, five .1)) (omega (arith, five .0, r))
+pub needed-is-n : (guest : Guest) (frame before after before′ after′ : List ℕ) (answer answer′ : Answer) (n : ℕ) → Sized guest
+    → Meets (outcome guest frame (length before)) before after answer → paper (answer .verdict) ≡ 5 ∷ n ∷ []
+    → n ≤ length before′ → Meets (outcome guest frame (length before′)) before′ after′ answer′ → paper (answer′ .verdict) ≡ 1 ∷ n ∷ []
+needed-is-n guest frame before after before′ after′ answer answer′ n sized m e r m′ =
+    let five = on-five guest frame before after answer sized m n e .1 in
+    one-if-room guest frame before′ after′ answer′ sized m′ (omega (arith, five .0, five .1)) (omega (arith, five .0, r))
     ∙ ap (λ (k : ℕ). 1 ∷ k ∷ []) (sym (five .0))

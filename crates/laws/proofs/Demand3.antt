@@ -4,17 +4,14 @@ use mathlib.Core.Path.{_≡_}
 use mathlib.Core.Logic.{_↔_}
 use mathlib.Core.List.{List, [], _∷_}
 use lib.ListN.{length, take, drop}
-use Rattle.record.specs.Network.{FourBytes}
-use Rattle.record.proofs.Addresses.{four-bytes}
 use Rattle.base.specs.Bytes.{part}
+use Rattle.record.specs.Guest.{Sized}
 use Rattle.record.specs.Answer.{paper, Wrote, Meets}
 use Rattle.frames.specs.Builders.{makeIpFrame, makeIpFrameInPlace, makeUdpPayload}
-use Rattle.record.specs.Network.{network}
 use Rattle.wire.specs.Rfc768.{datagram}
 use Rattle.record.specs.declared.answer.Answer.{Answer}
 use Rattle.record.specs.declared.guest.Guest.{Guest}
 use Rattle.record.specs.declared.answer.Verdict.{Verdict}
-use Rattle.record.specs.declared.network.Network.{Network}
 use Rattle.frames.proofs.InBuffer.{ip-frame-in-buffer, ip-frame-in-place-in-buffer, datagram-in-buffer}
 use Rattle.grammar.specs.Grammar.{Derivation, Derives}
 use Rattle.grammar.specs.Report.{refused, partsOf, Reads}
@@ -53,30 +50,21 @@ reports-its-parts s r kept d h = parts-reported s (reportOf r) kept d h
 -- "Every reply to a guest frame, like every TCP frame built, is derived by the grammar.": after the answer 1 with n the reply is the first n bytes of the buffer.
 -- That arrays have the lengths that their types say, 6 bytes a MAC and 4 an address, is a hypothesis throughout.
 
--- Every reply of `handle_on`, to any frame, from any record, with any buffer and on any network: an ARP reply as ARP, an echo reply as ICMP, a DHCP reply as DHCP, with its type.
-module _ (net : Network) (guest : Guest) (frame before after : List ℕ) (answer : Answer) (n : ℕ) (four : FourBytes net) (six : length (guest .mac) ≡ 6)
-    (m : Meets (outcome net guest frame (length before)) before after answer) (one : paper (answer .verdict) ≡ 1 ∷ n ∷ []) where
-  pub reply-derived : DerivedAs n (take n after) (decision net frame)
+-- Every reply of `handle`, to any frame, from any record, on whatever network, with any buffer: an ARP reply as ARP, an echo reply as ICMP, a DHCP reply as DHCP, with its type.
+module _ (guest : Guest) (frame before after : List ℕ) (answer : Answer) (n : ℕ) (sized : Sized guest)
+    (m : Meets (outcome guest frame (length before)) before after answer) (one : paper (answer .verdict) ≡ 1 ∷ n ∷ []) where
+  pub reply-derived : DerivedAs n (take n after) (decision (guest .network) frame)
   reply-derived =
-      let o = on-one net guest frame before after answer four six m n one .1 in
-      rw (o .3) (built-derived net guest frame four six n (o .1) (o .0))
+      let o = on-one guest frame before after answer sized m n one .1 in
+      rw (o .3) (built-derived guest frame sized n (o .1) (o .0))
 
   -- so each has one
   pub reply-in-grammar : (d : Derivation) × Derives (take n after) d
-  reply-in-grammar = some-derivation n (take n after) (decision net frame) reply-derived
-
--- Every reply of `handle`, which is on document 01's network.
-module _ (guest : Guest) (frame before after : List ℕ) (answer : Answer) (n : ℕ) (six : length (guest .mac) ≡ 6)
-    (m : Meets (outcome network guest frame (length before)) before after answer) (one : paper (answer .verdict) ≡ 1 ∷ n ∷ []) where
-  pub handle-derived : DerivedAs n (take n after) (decision network frame)
-  handle-derived = reply-derived network guest frame before after answer n four-bytes six m one
-
-  pub handle-in-grammar : (d : Derivation) × Derives (take n after) d
-  handle-in-grammar = reply-in-grammar network guest frame before after answer n four-bytes six m one
+  reply-in-grammar = some-derivation n (take n after) (decision (guest .network) frame) reply-derived
 
   -- so the strict reader takes each
   pub reply-taken : (r : Reading) → Reads (take n after) (reportOf r) → reportOf r ≡ refused 8 → ⊥
-  reply-taken r kept = accepts-exactly (take n after) r kept .1 handle-in-grammar
+  reply-taken r kept = accepts-exactly (take n after) r kept .1 reply-in-grammar
 
 -- Every frame of `make_tcp_frame`, with options and without: TCP.
 pub tcp-frame-derived : (guest : Guest) (ends : Endpoints) (seq ack flags : ℕ) (d before after : List ℕ) (answer : Answer) (n : ℕ)

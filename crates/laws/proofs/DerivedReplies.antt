@@ -6,9 +6,9 @@ use mathlib.Core.List.{List}
 use native.Mathlib.Omega.{arith}
 use lib.ListN.{length, drop}
 use Rattle.dhcp_message.specs.Message.{reply}
-use Rattle.record.specs.Network.{FourBytes}
 use Rattle.wire.specs.Rfc791.{sourceOf}
 use Rattle.wire.specs.Rfc894.{body, sourceMac}
+use Rattle.record.specs.Guest.{Sized}
 use Rattle.record.specs.Network.{broadcastOf}
 use Rattle.wire.specs.Rfc768.{datagram}
 use Rattle.record.specs.declared.guest.Guest.{Guest}
@@ -31,18 +31,21 @@ among-8 : (type : ℕ) → (type ≡ 2) ⊎ (type ≡ 5) → (1 ≤ type) × (ty
 among-8 type (inl e) = omega arith
 among-8 type (inr e) = omega arith
 
-module _ (net : Network) (guest : Guest) (frame : List ℕ) (four : FourBytes net) (six : length (guest .mac) ≡ 6) where
-  derived-as : (d : Decision) → Says net frame d → (n : ℕ) → n ≡ length (built net guest frame d) → 0 < n → DerivedAs n (built net guest frame d) d
+module _ (guest : Guest) (frame : List ℕ) (sized : Sized guest) where
+  abbrev net : Network
+  net = guest .network
+
+  derived-as : (d : Decision) → Says net frame d → (n : ℕ) → n ≡ length (built guest frame d) → 0 < n → DerivedAs n (built guest frame d) d
   unfolding Says dhcpFrameTo
-  derived-as ArpReply s n e p = arp-derived net frame (four .gateway) n e
+  derived-as ArpReply s n e p = arp-derived net frame (sized .network .gateway) n e
   derived-as (EchoReply start) s n e p =
       let eight : 8 ≤ length (drop start frame) = subst (λ (k : ℕ). 8 ≤ length (drop k frame)) (sym (s .1)) (s .0 .whole) in
       echo-derived _ n (net .gateway) (sourceOf (body frame)) (drop start frame) eight
-      (packet (sourceMac frame) (net .gateway) (sourceOf (body frame)) (echo (drop start frame)) (guest .id) 1 refl (four .gateway) refl n e)
+      (packet (sourceMac frame) (net .gateway) (sourceOf (body frame)) (echo (drop start frame)) (guest .id) 1 refl (sized .network .gateway) refl n e)
   derived-as (DhcpReply xid type) s n e p =
       let t = among-8 type (s .1) in
-      dhcp-derived net (guest .mac) xid type four six _ n (net .gateway) (broadcastOf net)
-      (packet (sourceMac frame) (net .gateway) (broadcastOf net) (datagram 68 67 (reply net (guest .mac) xid type)) (guest .id) 17 refl (four .gateway) refl n e)
+      dhcp-derived net (guest .mac) xid type (sized .network) (sized .mac) _ n (net .gateway) (broadcastOf net)
+      (packet (sourceMac frame) (net .gateway) (broadcastOf net) (datagram 68 67 (reply net (guest .mac) xid type)) (guest .id) 17 refl (sized .network .gateway) refl n e)
       (t .0) (t .1)
   derived-as Drop s n e p = omega arith
   derived-as (DropNoting xid) s n e p = omega arith
@@ -53,7 +56,7 @@ module _ (net : Network) (guest : Guest) (frame : List ℕ) (four : FourBytes ne
   derived-as (CutType place) s n e p = omega arith
 
   -- the frame that the tests have built
-  pub built-derived : (n : ℕ) → n ≡ length (replyAtAmpleRoom net guest frame) → 0 < n → DerivedAs n (replyAtAmpleRoom net guest frame) (decision net frame)
+  pub built-derived : (n : ℕ) → n ≡ length (replyAtAmpleRoom guest frame) → 0 < n → DerivedAs n (replyAtAmpleRoom guest frame) (decision net frame)
   unfolding replyAtAmpleRoom
   built-derived = derived-as (decision net frame) (says net frame)
 

@@ -6,7 +6,6 @@ use lib.ListN.{length, drop}
 use Rattle.dhcp_message.specs.Message.{reply}
 use Rattle.options.specs.Rfc2132.{walk, walkFrom}
 use Rattle.record.specs.Answer.{Meets, Outcome, paper}
-use Rattle.record.specs.Network.{network}
 use Rattle.record.specs.declared.answer.Answer.{Answer}
 use Rattle.record.specs.declared.guest.Guest.{Guest}
 use Rattle.wire.specs.Rfc768.{datagram}
@@ -34,7 +33,7 @@ long-ping = (refl, refl)
 
 -- and so whatever meets the contract of `handle` on a row's input has answered the row
 pub answered-as-in-the-row : (frame : List ℕ) (guest : Guest) (numbers bytes : List ℕ) (next : Guest) (before after : List ℕ) (answer : Answer)
-    → Holds (call frame guest (length before) numbers bytes next) → Meets (outcome network guest frame (length before)) before after answer
+    → Holds (call frame guest (length before) numbers bytes next) → Meets (outcome guest frame (length before)) before after answer
     → (paper (answer .verdict) ≡ numbers) × (after ≡ bytes ++ drop (length bytes) before) × (answer .guest ≡ next)
 answered-as-in-the-row frame guest numbers bytes next before after answer e m =
     let m′ = subst (λ (o : Outcome). Meets o before after answer) e m in

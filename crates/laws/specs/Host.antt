@@ -8,7 +8,6 @@ use Rattle.record.specs.declared.answer.Answer.{Answer}
 use Rattle.record.specs.declared.guest.Guest.{Guest}
 use Rattle.record.specs.declared.answer.Verdict.{Verdict}
 use Rattle.record.specs.declared.answer.Verdict.the-variants.{Drop, Reply, Dns, Relay, Tcp, NoRoom, TooLong, CutType}
-use Rattle.record.specs.declared.network.Network.{Network}
 use Rattle.rules.specs.Rules.{outcome}
 
 -- A call: whose it is, the frame, the buffer that is lent, whatever it holds, and the answer with the buffer afterwards.
@@ -19,9 +18,9 @@ pub record Call : Type 0 where
   pub answer : Answer
   pub after : List ℕ
 
--- The call was answered as the contract of `handle_on` says, from this record. (For every record, frame and buffer there is such an answer: `handle_on`'s.)
-abbrev pub Answered : Network → Guest → Call → Type 0
-Answered net guest call = Meets (outcome net guest (call .frame) (length (call .before))) (call .before) (call .after) (call .answer)
+-- The call was answered as the contract of `handle` says, from this record. (For every record, frame and buffer there is such an answer: `handle`'s.)
+abbrev pub Answered : Guest → Call → Type 0
+Answered guest call = Meets (outcome guest (call .frame) (length (call .before))) (call .before) (call .after) (call .answer)
 
 -- the record that it leaves
 abbrev pub leftBy : Call → Guest
@@ -31,20 +30,21 @@ leftBy call = call .answer .guest
 abbrev pub whose : Call → ℕ
 whose call = call .who
 
--- Calls one after the other, of any guests in any order: each is answered from its guest's record, and the record answered is kept.
-abbrev pub Served : Network → (host : ℕ → Guest) → List Call → Type 0
-Served net host calls = Serves (Answered net) leftBy whose host calls
+-- Calls one after the other, of any guests in any order: each is answered from its guest's record, and the record answered is kept. Each
+-- record has its own network: two guests' may differ, and may be the very same.
+abbrev pub Served : (host : ℕ → Guest) → List Call → Type 0
+Served host calls = Serves Answered leftBy whose host calls
 
 -- the records that they leave
-abbrev pub recordsAfter : Network → (host : ℕ → Guest) → List Call → (ℕ → Guest)
-recordsAfter net host calls = leavesAll (Answered net) leftBy whose host calls
+abbrev pub recordsAfter : (host : ℕ → Guest) → List Call → (ℕ → Guest)
+recordsAfter host calls = leavesAll Answered leftBy whose host calls
 
 -- the same where there is one guest alone
-abbrev pub ServedAlone : Network → Guest → List Call → Type 0
-ServedAlone net guest calls = Runs (Answered net) leftBy guest calls
+abbrev pub ServedAlone : Guest → List Call → Type 0
+ServedAlone guest calls = Runs Answered leftBy guest calls
 
-abbrev pub recordAfter : Network → Guest → List Call → Guest
-recordAfter net guest calls = leaves (Answered net) leftBy guest calls
+abbrev pub recordAfter : Guest → List Call → Guest
+recordAfter guest calls = leaves Answered leftBy guest calls
 
 -- what a guest hands in: its frame; and the room that the host gives it
 pub record Asked : Type 0 where

@@ -6,7 +6,7 @@ use mathlib.Core.List.{List, [], _∷_, _++_}
 use lib.ListN.{length, take, replicate}
 use Rattle.base.specs.Bytes.{be16}
 use Rattle.record.specs.Guest.{fresh, known}
-use Rattle.record.specs.Network.{network}
+use Rattle.record.specs.Network.{document01}
 use Rattle.record.specs.declared.guest.Guest.{Guest}
 use Rattle.rules.specs.Rules.{outcome}
 use Rattle.sums.specs.Rfc1071.{checksum}
@@ -20,18 +20,18 @@ pub data Case : Type 0 where
 abbrev pub Holds : Case → Type 0
 Holds (checksum-of bytes expected) = checksum bytes ≡ expected
 Holds (call frame guest room numbers bytes after) =
-    outcome network guest frame room ≡ record { writing = record { numbers = numbers; image = bytes }; guest = after }
+    outcome guest frame room ≡ record { writing = record { numbers = numbers; image = bytes }; guest = after }
 
 abbrev pub All : List Case → Type 0
 All [] = Unit
 All (row ∷ rows) = Holds row × All rows
 
--- the guest's MAC, and its record
+-- the guest's MAC, and its record, on document 01's network
 abbrev pub mac : List ℕ
 mac = 0x52 ∷ 0x54 ∷ 0x00 ∷ 0x12 ∷ 0x34 ∷ 0x56 ∷ []
 
 abbrev pub with : (id xid : ℕ) → Guest
-with id xid = known mac id xid
+with id xid = known mac id xid document01
 
 -- A1: an ARP request from that MAC and 10.0.2.15 for 10.0.2.2, and the reply
 abbrev pub arpRequest : List ℕ
@@ -89,13 +89,13 @@ marked =
     ∷ checksum-of (0x00 ∷ 0x01 ∷ []) 0xfffe  -- C3
     ∷ checksum-of (0xff ∷ 0xff ∷ []) 0  -- C4
     ∷ checksum-of (0xff ∷ 0xff ∷ 0x00 ∷ 0x01 ∷ []) 0xfffe  -- C5
-    ∷ call arpRequest (fresh mac) 2048 (1 ∷ 42 ∷ []) arpReply (with 1 0)  -- A1
-    ∷ call ping (fresh mac) 42 (1 ∷ 42 ∷ []) pong (with 2 0)  -- P1
-    ∷ call (message (0x35 ∷ 0x01 ∷ 0x01 ∷ 0xff ∷ [])) (fresh mac) 342 (1 ∷ 342 ∷ []) (dhcpReply 2) (with 2 0x11223344)  -- D0, D1: an offer
-    ∷ call (message (0x35 ∷ 0x01 ∷ [])) (fresh mac) 342 (7 ∷ 240 ∷ []) [] (with 1 0)  -- D2: 7, place 240
-    ∷ call (message (0x35 ∷ [])) (fresh mac) 342 (0 ∷ []) [] (with 1 0x11223344)  -- D3: a drop
-    ∷ call (message (0x35 ∷ 0x00 ∷ 0x35 ∷ 0x01 ∷ 0x03 ∷ [])) (fresh mac) 1514 (1 ∷ 342 ∷ []) (dhcpReply 5) (with 2 0x11223344)  -- D4: an acknowledgement
-    ∷ call (message (0x00 ∷ 0x00 ∷ 0x35 ∷ 0x05 ∷ 0x01 ∷ [])) (fresh mac) 2048 (1 ∷ 342 ∷ []) (dhcpReply 2) (with 2 0x11223344)  -- D5: an offer
+    ∷ call arpRequest (fresh mac document01) 2048 (1 ∷ 42 ∷ []) arpReply (with 1 0)  -- A1
+    ∷ call ping (fresh mac document01) 42 (1 ∷ 42 ∷ []) pong (with 2 0)  -- P1
+    ∷ call (message (0x35 ∷ 0x01 ∷ 0x01 ∷ 0xff ∷ [])) (fresh mac document01) 342 (1 ∷ 342 ∷ []) (dhcpReply 2) (with 2 0x11223344)  -- D0, D1: an offer
+    ∷ call (message (0x35 ∷ 0x01 ∷ [])) (fresh mac document01) 342 (7 ∷ 240 ∷ []) [] (with 1 0)  -- D2: 7, place 240
+    ∷ call (message (0x35 ∷ [])) (fresh mac document01) 342 (0 ∷ []) [] (with 1 0x11223344)  -- D3: a drop
+    ∷ call (message (0x35 ∷ 0x00 ∷ 0x35 ∷ 0x01 ∷ 0x03 ∷ [])) (fresh mac document01) 1514 (1 ∷ 342 ∷ []) (dhcpReply 5) (with 2 0x11223344)  -- D4: an acknowledgement
+    ∷ call (message (0x00 ∷ 0x00 ∷ 0x35 ∷ 0x05 ∷ 0x01 ∷ [])) (fresh mac document01) 2048 (1 ∷ 342 ∷ []) (dhcpReply 2) (with 2 0x11223344)  -- D5: an offer
     ∷ []
 
 -- P1's ping with its payload as long as this, its last bytes 0: its header states a total length of 28, which is not looked at
@@ -110,16 +110,16 @@ headerOf60 =
 
 -- the verdict's numbers at 65,549 bytes of room
 abbrev pub numbersOf : (frame : List ℕ) → List ℕ
-numbersOf frame = outcome network (fresh mac) frame 65549 .writing .numbers
+numbersOf frame = outcome (fresh mac document01) frame 65549 .writing .numbers
 
 -- The cases of "Bytes to check" that are not marked.
 abbrev pub unmarked : List Case
 unmarked =
-    call (message (0x35 ∷ 0x00 ∷ [])) (fresh mac) 342 (0 ∷ []) [] (with 1 0x11223344)  -- D6: a drop
-    ∷ call (message (0xff ∷ 0x35 ∷ 0x01 ∷ 0x01 ∷ [])) (fresh mac) 342 (0 ∷ []) [] (with 1 0x11223344)  -- D7: a drop
-    ∷ call (take 41 arpRequest) (fresh mac) 2048 (0 ∷ []) [] (with 1 0)  -- "41-byte ARP drop"
-    ∷ call headerOf60 (fresh mac) 2048 (0 ∷ []) [] (with 1 0)  -- "Header length 60 in a 34-byte UDP frame drop"
-    ∷ call (message (0x35 ∷ 0x01 ∷ 0x01 ∷ 0xff ∷ [])) (fresh mac) 341 (5 ∷ 342 ∷ []) [] (with 1 0)  -- "DHCP room 341 gives 5, needed 342"
+    call (message (0x35 ∷ 0x00 ∷ [])) (fresh mac document01) 342 (0 ∷ []) [] (with 1 0x11223344)  -- D6: a drop
+    ∷ call (message (0xff ∷ 0x35 ∷ 0x01 ∷ 0x01 ∷ [])) (fresh mac document01) 342 (0 ∷ []) [] (with 1 0x11223344)  -- D7: a drop
+    ∷ call (take 41 arpRequest) (fresh mac document01) 2048 (0 ∷ []) [] (with 1 0)  -- "41-byte ARP drop"
+    ∷ call headerOf60 (fresh mac document01) 2048 (0 ∷ []) [] (with 1 0)  -- "Header length 60 in a 34-byte UDP frame drop"
+    ∷ call (message (0x35 ∷ 0x01 ∷ 0x01 ∷ 0xff ∷ [])) (fresh mac document01) 341 (5 ∷ 342 ∷ []) [] (with 1 0)  -- "DHCP room 341 gives 5, needed 342"
     ∷ []
 
 -- "Ping payload 65,515 replies 65,549 bytes; 65,516 gives 6": the verdict's numbers, and the record's id afterwards

@@ -9,7 +9,6 @@ use Rattle.wire.specs.Rfc2131.{transactionId}
 use Rattle.record.specs.declared.guest.Guest.{Guest}
 use Rattle.record.specs.declared.answer.Verdict.{Verdict}
 use Rattle.record.specs.declared.answer.Verdict.the-variants.{Drop, Reply, Dns, Relay, Tcp, NoRoom, TooLong, CutType}
-use Rattle.record.specs.declared.network.Network.{Network}
 use Rattle.echo_reply.specs.Reply.{echoFrame}
 use Rattle.arp_reply.specs.Reply.{arpReply}
 use Rattle.dhcp_reply.specs.Reply.{dhcpFrame}
@@ -21,33 +20,38 @@ use Rattle.rules.specs.declared.decision.Decision.the-variants.{DropNoting, Arp
 use Rattle.rules.specs.declared.decision.Decision.the-variants as Decision
 
 -- the frame that a decision builds; `[]` where it builds none
-abbrev pub built : Network → Guest → (frame : List ℕ) → Decision → List ℕ
-built net guest frame ArpReply = arpReply net frame
-built net guest frame (EchoReply start) = echoFrame net guest frame start
-built net guest frame (DhcpReply xid type) = dhcpFrame net guest frame xid type
-built net guest frame Decision.Drop = []
-built net guest frame (DropNoting xid) = []
-built net guest frame (Decision.Dns start len) = []
-built net guest frame (Decision.Relay start len) = []
-built net guest frame (Decision.Tcp len) = []
-built net guest frame (Decision.TooLong len) = []
-built net guest frame (Decision.CutType place) = []
+abbrev pub built : Guest → (frame : List ℕ) → Decision → List ℕ
+built guest frame ArpReply = arpReply (guest .network) frame
+built guest frame (EchoReply start) = echoFrame guest frame start
+built guest frame (DhcpReply xid type) = dhcpFrame guest frame xid type
+built guest frame Decision.Drop = []
+built guest frame (DropNoting xid) = []
+built guest frame (Decision.Dns start len) = []
+built guest frame (Decision.Relay start len) = []
+built guest frame (Decision.Tcp len) = []
+built guest frame (Decision.TooLong len) = []
+built guest frame (Decision.CutType place) = []
 
 -- the reply to a frame where there is room; `[]` where it gets none
-unfoldable pub replyAtAmpleRoom : Network → Guest → (frame : List ℕ) → List ℕ
-replyAtAmpleRoom net guest frame = built net guest frame (decision net frame)
+unfoldable pub replyAtAmpleRoom : Guest → (frame : List ℕ) → List ℕ
+replyAtAmpleRoom guest frame = built guest frame (decision (guest .network) frame)
 
 -- The column "Returned", row by row: the numbers, and what they say of the frame, the room and the buffer afterwards.
-abbrev pub Returned : Network → Guest → (frame before after : List ℕ) → Verdict → Type 0
-Returned net guest frame before after Drop = Unit
-Returned net guest frame before after (Reply n) =
-    (0 < n) × (n ≡ length (replyAtAmpleRoom net guest frame)) × (n ≤ length before) × (take n after ≡ replyAtAmpleRoom net guest frame)
-Returned net guest frame before after (Dns start len) = Query net frame start len
-Returned net guest frame before after (Relay start len) = Outbound net frame start len
-Returned net guest frame before after (Tcp len) = Segment frame len
-Returned net guest frame before after (NoRoom needed) = (needed ≡ length (replyAtAmpleRoom net guest frame)) × (length before < needed)
-Returned net guest frame before after (TooLong len) = TooLongPing net frame len
-Returned net guest frame before after (CutType place) = CutMessage frame place
+abbrev pub Returned : Guest → (frame before after : List ℕ) → Verdict → Type 0
+Returned guest frame before after Drop = Unit
+Returned guest frame before after (Reply n) =
+    (0 < n) × (n ≡ length (replyAtAmpleRoom guest frame)) × (n ≤ length before) × (take n after ≡ replyAtAmpleRoom guest frame)
+Returned guest frame before after (Dns start len) = Query (guest .network) frame start len
+Returned guest frame before after (Relay start len) = Outbound (guest .network) frame start len
+Returned guest frame before after (Tcp len) = Segment frame len
+Returned guest frame before after (NoRoom needed) = (needed ≡ length (replyAtAmpleRoom guest frame)) × (length before < needed)
+Returned guest frame before after (TooLong len) = TooLongPing (guest .network) frame len
+Returned guest frame before after (CutType place) = CutMessage frame place
+
+-- what no answer changes
+pub record Settled (guest next : Guest) : Type 0 where
+  pub mac-kept : next .mac ≡ guest .mac
+  pub network-kept : next .network ≡ guest .network
 
 -- "nothing"
 pub record Unchanged (guest next : Guest) (before after : List ℕ) : Type 0 where
@@ -66,7 +70,7 @@ pub record AtMostXid (frame : List ℕ) (guest next : Guest) (before after : Lis
 -- 1: "first n reply bytes; id on IPv4; xid on DHCP"
 pub record ReplyBytesIdXid (frame : List ℕ) (n : ℕ) (guest next : Guest) (before after : List ℕ) : Type 0 where
   pub rest-untouched : drop n after ≡ drop n before
-  pub mac-kept : next .mac ≡ guest .mac
+  pub settled : Settled guest next
   pub arp-or-ipv4 : (typeOf frame ≡ 0x0806 → ⊥) → typeOf frame ≡ 0x0800
   pub arp-keeps-all : typeOf frame ≡ 0x0806 → next ≡ guest
   pub ipv4-takes-id : typeOf frame ≡ 0x0800 → next .id ≡ (guest .id + 1) % 65536

@@ -1,6 +1,9 @@
 -- A guest's record (document 01, "The record", and document 02, 1/13), and all that makes or changes one. No other definition names its fields to make one.
 use Prim.Native.Nat.{ℕ, _+_, _%_}
+use mathlib.Core.Path.{_≡_}
 use mathlib.Core.List.{List}
+use lib.ListN.{length}
+use Rattle.record.specs.Network.{FourBytes}
 use Rattle.record.specs.declared.guest.Guest.{Guest}
 use Rattle.record.specs.declared.network.Network.{Network}
 
@@ -23,3 +26,8 @@ spent g = withId ((g .id + 1) % 65536) g
 -- once it has a message with this xid
 abbrev pub noting : (xid : ℕ) → Guest → Guest
 noting xid g = record { mac = g .mac; id = g .id; xid = xid; network = g .network }
+
+-- the lengths that a record's arrays have by their types
+pub record Sized (guest : Guest) : Type 0 where
+  pub mac : length (guest .mac) ≡ 6
+  pub network : FourBytes (guest .network)

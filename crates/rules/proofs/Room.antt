@@ -36,13 +36,16 @@ stated net frame asked = go (getD (drop 14 frame) 0 0 % 16) refl
         absurd (omega (arith, e, ap (λ (b : ℕ). b % 16) first))
     go (suc n) e = omega (arith, e)
 
-module _ (net : Network) (guest : Guest) (frame : List ℕ) (room : ℕ) where
+module _ (guest : Guest) (frame : List ℕ) (room : ℕ) where
+  abbrev net : Network
+  net = guest .network
+
   -- the number that the answer has, and the first of its values
   number : Decision → ℕ
-  number d = getD (outcomeOf net guest frame room d .writing .numbers) 0 0
+  number d = getD (outcomeOf guest frame room d .writing .numbers) 0 0
 
   value : Decision → ℕ
-  value d = getD (outcomeOf net guest frame room d .writing .numbers) 1 0
+  value d = getD (outcomeOf guest frame room d .writing .numbers) 1 0
 
   framing-fits : (after : Guest) (need : ℕ) (image : List ℕ) → need ≤ room → getD (framing guest after need room image .writing .numbers) 0 0 ≡ 5 → ⊥
   unfolding framing
@@ -90,7 +93,7 @@ module _ (net : Network) (guest : Guest) (frame : List ℕ) (room : ℕ) where
   no-five (CutType place) s ample e = omega (arith, e)
 
   -- with ample room 5 is never to come
-  pub never-five : Ample frame room → getD (outcome net guest frame room .writing .numbers) 0 0 ≡ 5 → ⊥
+  pub never-five : Ample frame room → getD (outcome guest frame room .writing .numbers) 0 0 ≡ 5 → ⊥
   unfolding outcome number
   never-five = no-five (decision net frame) (says net frame)
 
@@ -99,8 +102,8 @@ module _ (net : Network) (guest : Guest) (frame : List ℕ) (room : ℕ) where
   no-longer Drop s e = omega arith
   no-longer (DropNoting xid) s e = omega arith
   no-longer ArpReply s e = omega (arith, framing-tells guest 42 (arpReply net frame))
-  no-longer (EchoReply start) s e = omega (arith, framing-tells (spent guest) (34 + length (drop start frame)) (echoFrame net guest frame start), echo-needs start s .0)
-  no-longer (DhcpReply xid type) s e = omega (arith, framing-tells (spent (noting xid guest)) 342 (dhcpFrame net guest frame xid type))
+  no-longer (EchoReply start) s e = omega (arith, framing-tells (spent guest) (34 + length (drop start frame)) (echoFrame guest frame start), echo-needs start s .0)
+  no-longer (DhcpReply xid type) s e = omega (arith, framing-tells (spent (noting xid guest)) 342 (dhcpFrame guest frame xid type))
   no-longer (Dns start len) s e = absurd (omega (arith, e))
   no-longer (Relay start len) s e = absurd (omega (arith, e))
   no-longer (Tcp len) s e = absurd (omega (arith, e))
@@ -108,6 +111,6 @@ module _ (net : Network) (guest : Guest) (frame : List ℕ) (room : ℕ) where
   no-longer (CutType place) s e = absurd (omega (arith, e))
 
   -- a reply has at most 65,549 bytes
-  pub never-longer : getD (outcome net guest frame room .writing .numbers) 0 0 ≡ 1 → getD (outcome net guest frame room .writing .numbers) 1 0 ≤ 65549
+  pub never-longer : getD (outcome guest frame room .writing .numbers) 0 0 ≡ 1 → getD (outcome guest frame room .writing .numbers) 1 0 ≤ 65549
   unfolding outcome number value
   never-longer = no-longer (decision net frame) (says net frame)

@@ -16,12 +16,12 @@ use Rattle.rules.specs.declared.decision.Decision.the-variants.{EchoReply}
 use Rattle.rules.proofs.Says.{Says, says}
 
 -- the outcome is the decision's
-pub as-decided : (net : Network) (guest : Guest) (frame before after : List ℕ) (answer : Answer) (d : Decision) → decision net frame ≡ d
-    → Meets (outcomeOf net guest frame (length before) d) before after answer
-    → Meets (outcome net guest frame (length before)) before after answer
+pub as-decided : (guest : Guest) (frame before after : List ℕ) (answer : Answer) (d : Decision) → decision (guest .network) frame ≡ d
+    → Meets (outcomeOf guest frame (length before) d) before after answer
+    → Meets (outcome guest frame (length before)) before after answer
 unfolding outcome
-as-decided net guest frame before after answer d e m =
-    subst (λ (x : Decision). Meets (outcomeOf net guest frame (length before) x) before after answer) (sym e) m
+as-decided guest frame before after answer d e m =
+    subst (λ (x : Decision). Meets (outcomeOf guest frame (length before) x) before after answer) (sym e) m
 
 -- nothing is written
 pub left-alone : (v : Verdict) (numbers : List ℕ) (guest : Guest) (before : List ℕ) (answer : Answer) → paper v ≡ numbers

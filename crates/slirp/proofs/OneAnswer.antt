@@ -1,4 +1,4 @@
--- The contract of `handle` leaves one answer, on every network: `handle` is `handle_on` on document 01's.
+-- The contract of `handle` leaves one answer, for every record.
 use mathlib.Core.Path.{_≡_}
 use Prim.Native.Nat.{ℕ}
 use mathlib.Core.List.{List}
@@ -6,11 +6,10 @@ use lib.ListN.{length}
 use Rattle.record.specs.Answer.{Meets}
 use Rattle.record.specs.declared.answer.Answer.{Answer}
 use Rattle.record.specs.declared.guest.Guest.{Guest}
-use Rattle.record.specs.declared.network.Network.{Network}
 use Rattle.record.proofs.OneAnswer.{one-outcome}
 use Rattle.rules.specs.Rules.{outcome}
 
-pub handle-answers-once : (net : Network) (guest : Guest) (frame before after after′ : List ℕ) (a a′ : Answer)
-    → Meets (outcome net guest frame (length before)) before after a
-    → Meets (outcome net guest frame (length before)) before after′ a′ → (a ≡ a′) × (after ≡ after′)
-handle-answers-once net guest frame before after after′ a a′ = one-outcome _ before after after′ a a′
+pub handle-answers-once : (guest : Guest) (frame before after after′ : List ℕ) (a a′ : Answer)
+    → Meets (outcome guest frame (length before)) before after a
+    → Meets (outcome guest frame (length before)) before after′ a′ → (a ≡ a′) × (after ≡ after′)
+handle-answers-once guest frame before after after′ a a′ = one-outcome _ before after after′ a a′

@@ -45,7 +45,6 @@ use denote.Triple.Walked.{says, Stays, stay-ref, stay-dropped, gave-slice, walkO
 use denote.Exit.{yes}
 use denote.Signature.{plain, shrSliceOf}
 use Rattle.record.specs.Answer as core
-use Rattle.record.specs.Network.{network}
 use Rattle.rules.specs.Rules.{outcome}
 use Rattle.record.specs.declared.answer.Verdict.{Verdict}
 use Rattle.record.specs.declared.guest.Guest.{Guest}
@@ -111,7 +110,7 @@ module _ {M : Type 1} (𝓤 : URA M) (H : Heap 𝓤) (A : Atoms 𝓤) (W : Given
 
   -- what `handle` answers
   abbrev Said : Answer → List ℕ → Type 0
-  Said r zs = core.Meets (outcome network h (fr .now) (length (re .now))) (re .now) zs r
+  Said r zs = core.Meets (outcome h (fr .now) (length (re .now))) (re .now) zs r
 
   -- the tokens of the two slices, as `handle` asks them and gives them back
   abbrev tokens : Item 𝓤

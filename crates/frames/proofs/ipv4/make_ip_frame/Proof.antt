@@ -16,8 +16,9 @@ returns-2 c = rw (c .answer2 .ensures) (refused-no-room _ _ _ _ _ _ _ _ (omega a
 
 returns-3 : tie.Need-returns-3
 returns-3 c =
-    let a = c .before .before .before .before .before .before .before .before .before .before .before .before .args in
-    framed-there (a .dst-mac) (a .src-ip) (a .dst-ip) (omega arith) (omega arith) (omega arith) (a .guest) _ _ _ (a .guest .id) (a .proto) (a .payload .now) (a .out .now)
+    let start = c .before .before .before .before .before .before .before .before .before .before .before .before in
+    let a = start .args in
+    framed-there (a .dst-mac) (a .src-ip) (a .dst-ip) (omega (arith, start .good)) (omega (arith, start .good)) (omega (arith, start .good)) (a .guest) _ _ _ (a .guest .id) (a .proto) (a .payload .now) (a .out .now)
     _ _ _ _ refl (c .before .before .before .before .before .before .put .ensures ∙ fits _ _ _ (omega arith)) refl (omega arith) (omega arith) (omega arith) (c .before .before .make-ip-frame-in-place .ensures)
 
 pub make-ip-frame-spec : {M : Type 1} → statement M

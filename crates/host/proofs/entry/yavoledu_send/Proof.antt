@@ -40,7 +40,6 @@ use denote.Triple.Walked.{says, Stays, stay-dropped, gave-ref, gave-slice, walkO
 use denote.Exit.{yes}
 use denote.Signature.{plain, shrSliceOf}
 use Rattle.record.specs.Answer as core
-use Rattle.record.specs.Network.{network}
 use Rattle.record.specs.declared.guest.Guest.{Guest}
 use Rattle.record.specs.declared.answer.Verdict.{Verdict}
 use Rattle.rules.specs.Rules.{outcome}
@@ -99,7 +98,7 @@ module _ {M : Type 1} (𝓤 : URA M) (H : Heap 𝓤) (A : Atoms 𝓤) (W : Given
 
   -- what `send` answers, and what `numbered` does
   abbrev Said : Verdict → Guest → List ℕ → Type 0
-  Said r g zs = core.Meets (outcome network h (fr .now) (length (re .now))) (re .now) zs (record { verdict = r; guest = g })
+  Said r g zs = core.Meets (outcome h (fr .now) (length (re .now))) (re .now) zs (record { verdict = r; guest = g })
 
   abbrev Numbers : Verdict → ℕ → List ℕ → Type 0
   Numbers r n vs = n ∷ vs ≡ padded (core.paper r)

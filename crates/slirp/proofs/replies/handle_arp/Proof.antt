@@ -21,15 +21,15 @@ returns-2 : tie.Need-returns-2
 returns-2 c =
     let written = c .before .before .before in
     let asked = written .before .before in
-    let tests = asked .before .before .before in
+    let tests = asked .before .before .before .before in
     let start = tests .before .before .before in
     let a = start .args in
     let mac : asked .before .mac-at .result ≡ senderMac (body (a .frame .now)) = simp getD-drop (asked .before .mac-at .ensures) in
     let address : asked .address-at .result ≡ senderAddress (body (a .frame .now)) = simp getD-drop (asked .address-at .ensures) in
-    let four = sym (length-map (a .net .gateway) _) ∙ start .good .0 .1 .1 .0 .1 .0 .1 in
+    let four = sym (length-map (a .guest .network .gateway) _) ∙ start .good .0 .1 .1 .1 .1 .1 .0 .1 .1 .0 .1 .0 .1 in
     rw (c .answer2 .ensures)
-    (large-enough _ _ 42 _ _ 42 refl (length-replyTo (a .net .gateway) (senderMac (body (a .frame .now))) (senderAddress (body (a .frame .now))) four refl refl) (tests .if1 .left) _
-    (written .put-arp-reply .ensures ∙ ap (λ (s : List ℕ). putIfFits 0 s (a .reply .now)) (ap₂ (replyTo (a .net .gateway)) mac address)))
+    (large-enough _ _ 42 _ _ 42 refl (length-replyTo (a .guest .network .gateway) (senderMac (body (a .frame .now))) (senderAddress (body (a .frame .now))) four refl refl) (tests .if1 .left) _
+    (written .put-arp-reply .ensures ∙ ap (λ (s : List ℕ). putIfFits 0 s (a .reply .now)) (ap₂ (replyTo (a .guest .network .gateway)) mac address)))
 
 pub handle-arp-spec : {M : Type 1} → statement M
 handle-arp-spec =

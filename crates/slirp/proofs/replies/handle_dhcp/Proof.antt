@@ -21,21 +21,21 @@ returns-2 c =
     let noted = c .before .before in
     let written = noted .before .before .before in
     let sender = written .before .before in
-    let tests = sender .before .before in
+    let tests = sender .before .before .before in
     let start = tests .before .before .before in
     let a = start .args in
-    let net = start .good .0 .1 .1 in
-    let four : FourBytes (a .net) =
+    let net = start .good .0 .1 .1 .1 .1 .1 .0 .1 .1 in
+    let four : FourBytes (a .guest .network) =
     record {
-      gateway = sym (length-map (a .net .gateway) _) ∙ net .0 .1 .0 .1;
-      guest = sym (length-map (a .net .guest) _) ∙ net .1 .0 .1 .0 .1;
-      mask = sym (length-map (a .net .mask) _) ∙ net .1 .1 .0 .1 .0 .1;
+      gateway = sym (length-map (a .guest .network .gateway) _) ∙ net .0 .1 .0 .1;
+      guest = sym (length-map (a .guest .network .guest) _) ∙ net .1 .0 .1 .0 .1;
+      mask = sym (length-map (a .guest .network .mask) _) ∙ net .1 .1 .0 .1 .0 .1;
     } in
-    let six = sym (length-map (a .guest .mac) _) ∙ start .good .1 .0 .1 .1 .0 .1 .0 .1 in
+    let six = sym (length-map (a .guest .mac) _) ∙ start .good .0 .1 .1 .0 .1 .0 .1 in
     rw (c .answer2 .ensures, c .before .spend .ensures, noted .note .ensures)
-    (large-enough _ _ 342 _ _ 342 refl (length-dhcpFrameTo (a .net) (a .guest .mac) (a .guest .id) (sourceMac (a .frame .now)) (a .xid) (a .kind) four six refl) (tests .if1 .left) _
+    (large-enough _ _ 342 _ _ 342 refl (length-dhcpFrameTo (a .guest .network) (a .guest .mac) (a .guest .id) (sourceMac (a .frame .now)) (a .xid) (a .kind) four six refl) (tests .if1 .left) _
     (written .put-dhcp-reply .ensures
-    ∙ ap (λ (to : List ℕ). putIfFits 0 (dhcpFrameTo (a .net) (a .guest .mac) (a .guest .id) to (a .xid) (a .kind)) (a .reply .now)) (sender .eth-src .ensures)))
+    ∙ ap (λ (to : List ℕ). putIfFits 0 (dhcpFrameTo (a .guest .network) (a .guest .mac) (a .guest .id) to (a .xid) (a .kind)) (a .reply .now)) (sender .eth-src .ensures)))
 
 pub handle-dhcp-spec : {M : Type 1} → statement M
 handle-dhcp-spec =

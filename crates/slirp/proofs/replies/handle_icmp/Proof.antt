@@ -27,25 +27,25 @@ returns-2 c =
     let written = spent .before .before .before in
     let from = written .before .before .before in
     let sender = from .before in
-    let tests = sender .before .before in
+    let tests = sender .before .before .before in
     let size = tests .before in
     let start = size .before .before .before in
     let a = start .args in
     let frame = a .frame .now in
     let request = drop (a .start) frame in
     let cut = length-drop (a .start) frame in
-    let four = sym (length-map (a .net .gateway) _) ∙ start .good .0 .1 .1 .0 .1 .0 .1 in
+    let four = sym (length-map (a .guest .network .gateway) _) ∙ start .good .0 .1 .1 .1 .1 .1 .0 .1 .1 .0 .1 .0 .1 in
     let whole : 4 ≤ length request = omega (arith, cut, start .pre) in
     let short : length request ≤ 65515 = omega (arith, cut, start .pre) in
-    let as-asked = ap₂ (λ (to at : List ℕ). putEcho to (a .guest .id) (a .net .gateway) at (take (length frame - a .start) request) (a .reply .now)) (sender .eth-src .ensures) (from .ip-src .ensures) in
+    let as-asked = ap₂ (λ (to at : List ℕ). putEcho to (a .guest .id) (a .guest .network .gateway) at (take (length frame - a .start) request) (a .reply .now)) (sender .eth-src .ensures) (from .ip-src .ensures) in
     rw (c .answer2 .ensures, spent .spend .ensures)
     (large-enough _ _ _ _ _ (34 + size .payload-length .result) (omega (arith, cut, size .payload-length .ensures))
-    (long (sourceMac frame) (a .guest .id) (a .net .gateway) (sourceOf (body frame)) request (a .reply .now) whole short refl four refl)
+    (long (sourceMac frame) (a .guest .id) (a .guest .network .gateway) (sourceOf (body frame)) request (a .reply .now) whole short refl four refl)
     (omega (arith, cut, size .payload-length .ensures, tests .if1 .left)) _
     (written .put-echo-reply .ensures
     ∙ as-asked
-    ∙ ap (λ (r : List ℕ). putEcho (sourceMac frame) (a .guest .id) (a .net .gateway) (sourceOf (body frame)) r (a .reply .now)) (from-on (a .start) frame)
-    ∙ there (sourceMac frame) (a .guest .id) (a .net .gateway) (sourceOf (body frame)) request (a .reply .now) whole short refl four refl))
+    ∙ ap (λ (r : List ℕ). putEcho (sourceMac frame) (a .guest .id) (a .guest .network .gateway) (sourceOf (body frame)) r (a .reply .now)) (from-on (a .start) frame)
+    ∙ there (sourceMac frame) (a .guest .id) (a .guest .network .gateway) (sourceOf (body frame)) request (a .reply .now) whole short refl four refl))
 
 pub handle-icmp-spec : {M : Type 1} → statement M
 handle-icmp-spec =

@@ -1,0 +1,27 @@
+-- The broadcast address of a good network is its highest: under the prefix's bits of the guest's address all bits are set.
+use Prim.Native.Nat.{ℕ, _+_, _-_, _*_, _/_, _^_}
+use mathlib.Core.Path.{_≡_, ap, _∙_}
+use native.Mathlib.Omega.{arith}
+use lib.Bits.{bitOr, or-add-and, and-mask, mask-lt}
+use lib.Pow.{pow-pos, pow-mono, ones-lt, split, high}
+use Rattle.record.specs.Network.{broadcast}
+use Rattle.making.specs.Good.{size, Good, Highest}
+
+-- `a` with its last k bits set
+module _ (a k : ℕ) where
+  set-bits : bitOr a (2 ^ k - 1) ≡ a / 2 ^ k * 2 ^ k + (2 ^ k - 1)
+  set-bits = omega (arith, or-add-and a (2 ^ k - 1), and-mask a k, split a k)
+
+module _ {gateway guest mask : ℕ} (g : Good gateway guest mask) where
+  pub broadcast-is : broadcast guest mask ≡ guest / size (g .prefix) * size (g .prefix) + (size (g .prefix) - 1)
+  broadcast-is =
+      ap (bitOr guest) (omega (arith, g .contiguous, pow-pos (32 - g .prefix), pow-mono {i = 32 - g .prefix} {j = 32} (omega arith)))
+      ∙ set-bits guest (32 - g .prefix)
+
+  pub broadcast-highest : Highest (g .prefix) guest (broadcast guest mask)
+  broadcast-highest =
+      let s = 32 - g .prefix in
+      record {
+        of-network = ap (λ (n : ℕ). n / size (g .prefix)) broadcast-is ∙ high (guest / size (g .prefix)) s (ones-lt s);
+        none-higher = λ address e. omega (arith, broadcast-is, split address s, mask-lt address s, and-mask address s, ap (λ (n : ℕ). n * size (g .prefix)) e);
+      }

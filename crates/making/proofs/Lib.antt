@@ -1,0 +1,5 @@
+pub mod Masks
+pub mod Exactly
+pub mod Stored
+pub mod Highest
+pub mod Worked
