@@ -20,7 +20,7 @@ use std::ptr::null_mut;
 use std::sync::atomic::{AtomicPtr, Ordering};
 
 use ask_gateway::Whose;
-use calls::Answer;
+use calls::{Answer, Plan};
 use compare_builders::Builder;
 use compare_rust::TheRust;
 use compare_tally::grouped;
@@ -44,6 +44,8 @@ struct Judge {
     sends: [u64; 8],
     builds: [u64; 8],
     checksums: u64,
+    made: u64,
+    not_made: u64,
     /// By kind, and outside; replies are not among them.
     reads: [u64; 9],
     replies_read: u64,
@@ -128,6 +130,7 @@ fn guest_of(record: Record) -> Guest {
         mac: record.mac,
         id: record.id,
         xid: record.xid,
+        network: DOCUMENT_01,
     }
 }
 
@@ -142,6 +145,8 @@ impl Judge {
             sends: [0; 8],
             builds: [0; 8],
             checksums: 0,
+            made: 0,
+            not_made: 0,
             reads: [0; 9],
             replies_read: 0,
             panics: 0,
@@ -168,6 +173,7 @@ impl Judge {
                     self.built(record, &builder, &payload, room);
                 }
                 Asked::Built(_, data) => self.summed(record, &data),
+                Asked::Record(plan) => self.made(record, &plan),
             }
         }
     }
@@ -290,6 +296,22 @@ impl Judge {
         self.checksums += 1;
     }
 
+    /// A record made over this one: document 02 is the judge, in `calls`.
+    fn made(&mut self, record: Record, plan: &Plan) {
+        let mut number = 0;
+        for (name, library) in &LIBRARIES {
+            for place in 0..Guarded::PLACES {
+                self.lender.go_to(place);
+                let made = calls::make_guest(&mut self.lender, library, guest_of(record), plan);
+                number = made.unwrap_or_else(|what| differs(name, &what, &(record, plan)));
+            }
+        }
+        match number {
+            MADE => self.made += 1,
+            _ => self.not_made += 1,
+        }
+    }
+
     fn print(&self) {
         let list = |counts: &[u64]| {
             let counts: Vec<_> = counts.iter().map(|count| grouped(*count)).collect();
@@ -311,5 +333,10 @@ impl Judge {
         );
         println!("  builders, 1 / 5 / 6: {}", list(&builds));
         println!("  checksums: {}", grouped(self.checksums));
+        println!(
+            "  records, 24 / 9: {} / {}",
+            grouped(self.made),
+            grouped(self.not_made)
+        );
     }
 }

@@ -1,5 +1,6 @@
 //! What a fuzzer's bytes stand for: a guest, and calls that are made for it in a row. Any bytes are some calls.
 
+use crate::calls::Plan;
 use crate::captured::captured;
 use crate::cases::{Call, MOST_ROOM};
 use crate::compare_builders::Builder;
@@ -24,11 +25,11 @@ const LIMITS: [usize; 8] = [
 
 /// What the guest's record starts with but for its id: MAC and xid.
 const GUEST: usize = 10;
-/// A builder's fields, all of them for each.
+/// A builder's fields, all of them for each, or what a record is to be made of.
 const FIELDS: usize = 28;
 
-/// A call as it is written: how it is made, a builder's fields, two bytes of length and the frame or payload, and behind
-/// these what makes it long.
+/// A call as it is written: how it is made, the fields of one that gets no frame, two bytes of length and the frame or
+/// payload, and behind these what makes it long.
 #[derive(Clone, Default)]
 struct Item {
     how: u8,
@@ -41,8 +42,8 @@ struct Item {
 const ROOM_BITS: u8 = 0x07;
 const LENGTHS_MADE_RIGHT: u8 = 0x08;
 const LONG: u8 = 0x10;
-/// It is a builder's call from this number on.
-const BUILDER: u8 = 0xc0;
+/// It has fields from this number on: a builder's call, or one that makes a record.
+const WITH_FIELDS: u8 = 0xc0;
 
 pub struct Input {
     guest: [u8; GUEST],
@@ -52,6 +53,7 @@ pub struct Input {
 pub enum Asked {
     Frame(Vec<u8>),
     Built(Builder, Vec<u8>),
+    Record(Plan),
 }
 
 /// The next bytes; those that are not there are 0.
@@ -66,7 +68,7 @@ fn array<const N: usize>(rest: &mut &[u8]) -> [u8; N] {
 impl Item {
     fn written(rest: &mut &[u8]) -> Self {
         let [how] = array(rest);
-        let fields = (how >= BUILDER).then(|| array(rest));
+        let fields = (how >= WITH_FIELDS).then(|| array(rest));
         let len = usize::from(u16::from_be_bytes(array(rest)));
         let (bytes, behind) = rest.split_at(len.min(rest.len()));
         *rest = behind;
@@ -88,6 +90,9 @@ impl Item {
 
     /// The call and its room.
     fn asked(&self) -> (Asked, usize) {
+        if let Some(plan) = self.fields.as_ref().and_then(plan) {
+            return (Asked::Record(plan), 0);
+        }
         let (mut bytes, builder) = (self.bytes.clone(), self.fields.as_ref().map(builder));
         if let Some(long) = self.long {
             // So that a short input can be a long frame: bytes by rule behind it, or zeros.
@@ -135,13 +140,28 @@ fn longest(builder: &Option<Builder>) -> usize {
     }
 }
 
+/// What a record is to be made of, where the first of the fields says so.
+fn plan(fields: &[u8; FIELDS]) -> Option<Plan> {
+    let rest = &mut &fields[..];
+    let [which, lease_named] = array(rest);
+    let plan = Plan {
+        mac: array(rest),
+        gateway: array(rest),
+        guest: array(rest),
+        mask: array(rest),
+        lease_named: lease_named.into(),
+        lease: u32::from_be_bytes(array(rest)),
+    };
+    (which % 5 == 4).then_some(plan)
+}
+
 fn builder(fields: &[u8; FIELDS]) -> Builder {
     let rest = &mut &fields[..];
     let [which, proto_or_flags] = array(rest);
     let (dst_mac, src_ip, dst_ip) = (array(rest), array(rest), array(rest));
     let [src_port, dst_port] = [array(rest), array(rest)].map(u16::from_be_bytes);
     let [seq, ack] = [array(rest), array(rest)].map(u32::from_be_bytes);
-    match which % 4 {
+    match which % 5 {
         0 => Builder::Made(Call::Ip {
             dst_mac,
             src_ip,
@@ -201,7 +221,7 @@ impl Input {
             0 => self.guest = array(&mut &mutate(&self.guest, GUEST)[..]),
             1 => {
                 item.how = draws.byte() & !LONG;
-                item.fields = (item.how >= BUILDER).then(|| item.fields.unwrap_or_default());
+                item.fields = (item.how >= WITH_FIELDS).then(|| item.fields.unwrap_or_default());
                 item.long = None;
             }
             2 => {
@@ -244,7 +264,7 @@ impl Input {
 }
 
 /// Inputs to start from, with names: the frames that real software sent, each alone; and simple ones, which are a frame of
-/// each kind in a row, long pings and a call of each builder.
+/// each kind in a row, long pings, a call of each builder, and a record made.
 pub fn seeds() -> Vec<(String, Vec<u8>)> {
     let frame = |bytes: Vec<u8>| Item {
         bytes,
@@ -275,15 +295,30 @@ pub fn seeds() -> Vec<(String, Vec<u8>)> {
         let start = [&[which, 0x12], &GUEST_MAC[..], &GATEWAY_IP, &GUEST_IP].concat();
         let fields = [start, ports_and_more.to_vec()].concat();
         Item {
-            how: BUILDER,
+            how: WITH_FIELDS,
             fields: Some(array(&mut &fields[..])),
             bytes: b"some data".to_vec(),
             long: None,
         }
     });
+    let mask_and_lease = [255, 255, 255, 0, 0, 1, 0x51, 0x80, 0, 0, 0, 0];
+    let made = [
+        &[4, 1],
+        &GUEST_MAC[..],
+        &GATEWAY_IP,
+        &GUEST_IP,
+        &mask_and_lease,
+    ]
+    .concat();
+    let record = Item {
+        how: WITH_FIELDS,
+        fields: Some(array(&mut &made[..])),
+        ..Item::default()
+    };
     let alone = long_pings
         .into_iter()
         .chain(builders)
+        .chain([record])
         .map(|item| vec![item]);
     let simple = [in_a_row].into_iter().chain(alone);
     let named = |kind: &'static str, number: usize, items: Vec<Item>| {
