@@ -167,22 +167,25 @@ const ADDRESSES: [u32; 6] = [
     0x7fff_ffff,
 ];
 
-/// The edges of the network that this address is of, where its mask has so many ones: one outside each way, the two lowest,
+/// The edges of the network that this address is of, where its mask has so many ones: two outside each way, the two lowest,
 /// the two highest; and one in its middle.
-fn edges(address: u32, ones: usize) -> [u32; 7] {
-    let size = 2_u64.pow(32 - ones as u32);
-    let lowest = u64::from(address) / size * size;
-    // Past either end of all addresses comes the other.
-    let wrapped = |number: u64| number as u32;
+fn edges(address: u32, ones: usize) -> [u32; 9] {
+    let size = 2_i64.pow(32 - ones as u32);
+    let lowest = i64::from(address) / size * size;
+    let highest = lowest + size - 1;
     [
-        wrapped(lowest.wrapping_sub(1)),
-        wrapped(lowest),
-        wrapped(lowest + 1),
-        wrapped(lowest + size / 2),
-        wrapped((lowest + size).wrapping_sub(2)),
-        wrapped(lowest + size - 1),
-        wrapped(lowest + size),
+        lowest - 2,
+        lowest - 1,
+        lowest,
+        lowest + 1,
+        lowest + size / 2,
+        highest - 1,
+        highest,
+        highest + 1,
+        highest + 2,
     ]
+    // Past either end of all addresses comes the other.
+    .map(|number| number as u32)
 }
 
 /// How many of the pairs make a record, each a gateway and a guest.
