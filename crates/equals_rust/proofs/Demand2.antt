@@ -1,14 +1,21 @@
 -- Demand 2 of the gateway: "On every frame where the Rust shown doesn't panic or cut a length to 16 bits, and the buffer has room for the reply, the verdict and reply bytes, and the record after a
--- drop or reply, equal the Rust's from the same IP id, xid and guest MAC." The Rust is crate `published`: a build without overflow checks. `recordOf` a backend is the record with its id, xid and MAC.
+-- drop or reply, equal the Rust's from the same IP id, xid and guest MAC." The Rust is crate `published`: a build without overflow checks. `recordOf` a backend is the record with its id, xid and MAC,
+-- on the network of the Rust's text. (Document 02, 1/13: "Demand 2 compares with the Rust for the record of 01's values and with the written definition for every other": the latter is `handle`'s contract.)
 use Prim.Native.Nat.{ℕ, _≤_, _<_}
-use mathlib.Core.Path.{_≡_, refl, ap, subst}
+use mathlib.Core.Path.{_≡_, refl, ap, sym, subst}
 use mathlib.Core.Logic.{_⊎_, inl, inr, _↔_}
 use mathlib.Core.List.{List, [], _∷_}
 use native.Mathlib.Omega.{arith}
 use lib.ListN.{length}
 use Rattle.record.specs.Answer.{Outcome, Meets}
-use Rattle.record.specs.Guest.{fresh}
-use Rattle.record.specs.Network.{network}
+use Rattle.record.specs.Guest.{fresh, known}
+use Rattle.making.proofs.Exactly.{good-is-made}
+use Rattle.making.proofs.Worked.{document01-good}
+use Rattle.making.specs.Making.{Makes}
+use Rattle.making.specs.declared.answer.Answer.the-variants.{Made}
+use Rattle.making.specs.declared.answer.Lease.the-variants.{Named}
+use Rattle.making.specs.declared.answer.Making.{Making}
+use Rattle.equals_rust.specs.Network.{rustNetwork}
 use Rattle.record.specs.declared.answer.Answer.{Answer}
 use Rattle.record.specs.declared.guest.Guest.{Guest}
 use Rattle.published.specs.Rust.{Run, gives, panics, cuts, unfinished, whole}
@@ -23,18 +30,26 @@ use Rattle.equals_rust.specs.Where.{HeaderPast, TypeCut, PingOver}
 use Rattle.equals_rust.proofs.Foretold.{AtPanic, Foretells, foretells}
 use Rattle.equals_rust.proofs.OnAll.{header-past-panics, type-cut-panics, ping-over-cuts, cut-decided}
 
--- every record is a backend's, and a new one is a new backend's
-pub every-record : (guest : Guest) → (self : SlirpBackend) × (recordOf self ≡ guest)
-every-record guest = (record { «guest_mac» = guest .mac; «rx_pending» = []; «dhcp_xid» = guest .xid; counter = guest .id; calls = [] }, refl)
+-- every record on that network is some backend's, and a new one is a new backend's
+pub every-record : (guest : Guest) → guest .network ≡ rustNetwork → (self : SlirpBackend) × (recordOf self ≡ guest)
+every-record guest e =
+    (record { «guest_mac» = guest .mac; «rx_pending» = []; «dhcp_xid» = guest .xid; counter = guest .id; calls = [] }, ap (known (guest .mac) (guest .id) (guest .xid)) (sym e))
 
-pub new-is-fresh : (mac : List ℕ) → recordOf (new mac) ≡ fresh mac
+pub new-is-fresh : (mac : List ℕ) → recordOf (new mac) ≡ fresh mac rustNetwork
 new-is-fresh mac = refl
+
+-- so is whatever `make` answers to document 01's addresses and a lease of 86,400 seconds by name
+pub made-is-new : (mac : List ℕ) (r : Making) → Makes mac (rustNetwork .gateway) (rustNetwork .guest) (rustNetwork .mask) (Named 86400) r
+    → (r .answer ≡ Made) × (r .guest ≡ recordOf (new mac))
+made-is-new mac r m =
+    let e = good-is-made m document01-good in
+    (ap (λ (x : Making). x .answer) e, ap (λ (x : Making). x .guest) e)
 
 -- For every frame and every backend, whatever it has pending, whose MAC and id are what their types say.
 module _ (self : SlirpBackend) (frame : List ℕ) (typed : GuestTyped (recordOf self)) (bytes : Bytes frame) where
   -- what the run's end says of what is to come
-  at-end : (room : ℕ) (r : Run SlirpBackend) → send self (whole frame) ≡ r → Foretells self frame room r (outcome network (recordOf self) frame room)
-  at-end room r e = subst (λ (x : Run SlirpBackend). Foretells self frame room x (outcome network (recordOf self) frame room)) e (foretells self frame typed bytes room)
+  at-end : (room : ℕ) (r : Run SlirpBackend) → send self (whole frame) ≡ r → Foretells self frame room r (outcome (recordOf self) frame room)
+  at-end room r e = subst (λ (x : Run SlirpBackend). Foretells self frame room x (outcome (recordOf self) frame room)) e (foretells self frame typed bytes room)
 
   -- the Rust always ends: no loop wants more turns than its definition has
   pub rust-ends : send self (whole frame) ≡ unfinished → ⊥
@@ -44,7 +59,7 @@ module _ (self : SlirpBackend) (frame : List ℕ) (typed : GuestTyped (recordOf 
   pub rust-panics-exactly : (send self (whole frame) ≡ panics) ↔ (HeaderPast frame ⊎ TypeCut frame)
   rust-panics-exactly = (λ e. only-these (at-end 0 panics e), on-all)
     where
-      only-these : AtPanic self frame (outcome network (recordOf self) frame 0) → HeaderPast frame ⊎ TypeCut frame
+      only-these : AtPanic self frame (outcome (recordOf self) frame 0) → HeaderPast frame ⊎ TypeCut frame
       only-these (inl (h, _)) = inl h
       only-these (inr (place, m, _)) = inr (place, m)
 
@@ -78,8 +93,8 @@ module _ (self : SlirpBackend) (frame : List ℕ) (typed : GuestTyped (recordOf 
   rust-hands-over b e = at-end 0 (gives b) e .1
 
   -- Whatever answers a call with any buffer as `handle` promises: `m` is what it ensures (crates/slirp/src/entry.rt).
-  module _ (before after : List ℕ) (answer : Answer) (m : Meets (outcome network (recordOf self) frame (length before)) before after answer) where
-    meets : (o : Outcome) → outcome network (recordOf self) frame (length before) ≡ o → Meets o before after answer
+  module _ (before after : List ℕ) (answer : Answer) (m : Meets (outcome (recordOf self) frame (length before)) before after answer) where
+    meets : (o : Outcome) → outcome (recordOf self) frame (length before) ≡ o → Meets o before after answer
     meets o e = subst (λ (x : Outcome). Meets x before after answer) e m
 
     -- Where the Rust gives, and the buffer has room for the reply: the same verdict and values, the same reply bytes, and after a drop or a reply the same record.
@@ -96,14 +111,14 @@ module _ (self : SlirpBackend) (frame : List ℕ) (typed : GuestTyped (recordOf 
     pub handle-at-a-header-past : HeaderPast frame → Meets (unwritten (0 ∷ []) (recordOf self)) before after answer
     handle-at-a-header-past h = go (at-end (length before) panics (header-past-panics self frame h))
       where
-        go : AtPanic self frame (outcome network (recordOf self) frame (length before)) → Meets (unwritten (0 ∷ []) (recordOf self)) before after answer
+        go : AtPanic self frame (outcome (recordOf self) frame (length before)) → Meets (unwritten (0 ∷ []) (recordOf self)) before after answer
         go (inl (_, o)) = meets _ o
         go (inr (_, c, _)) = absurd (omega (arith, h .past, c .message .datagram .there))
 
     -- where a message type is cut off, and it panics too: 7 with the option's place, and nothing has changed
     pub handle-at-a-cut-type : (place : ℕ) → CutMessage frame place → Meets (unwritten (7 ∷ place ∷ []) (recordOf self)) before after answer
     unfolding outcome outcomeOf
-    handle-at-a-cut-type place c = meets _ (ap (outcomeOf network (recordOf self) frame (length before)) (cut-decided frame place c))
+    handle-at-a-cut-type place c = meets _ (ap (outcomeOf (recordOf self) frame (length before)) (cut-decided frame place c))
 
     -- where it cuts a ping's length: 6 with the length, and nothing has changed
     pub handle-at-a-ping-over : PingOver frame → Meets (unwritten (6 ∷ length (payload frame) ∷ []) (recordOf self)) before after answer

@@ -7,9 +7,9 @@ use native.Mathlib.Omega.{arith}
 use borrow.Author.Tests.{lt-ltb, le-ltb}
 use lib.ListN.{length, take, drop, length-take, length-drop, drop-of-length-le}
 use lib.Seq.{drop-append-seam}
-use Rattle.record.proofs.Addresses.{four-bytes}
+use Rattle.equals_rust.proofs.TheNetwork.{four-bytes}
 use Rattle.record.specs.Answer.{Outcome}
-use Rattle.record.specs.Network.{network}
+use Rattle.equals_rust.specs.Network.{rustNetwork}
 use Rattle.record.specs.declared.guest.Guest.{Guest}
 use Rattle.published.specs.Rust.{Run, gives, panics, cuts, unfinished, whole}
 use Rattle.published.specs.Backend.{CallOut, «handle_tcp», SlirpBackend, withXid, pushed, calling}
@@ -55,7 +55,7 @@ module _ (self : SlirpBackend) (frame : List ℕ) where
 
   came-pushed : (image : List ℕ) (counter xid : ℕ)
       → Came self frame (pushed image counter (withXid xid self))
-      (record { writing = writtenAs image; guest = known (self .«guest_mac») counter xid })
+      (record { writing = writtenAs image; guest = known (self .«guest_mac») counter xid rustNetwork })
   came-pushed image counter xid =
       record {
         came = rw (one-added (self .«rx_pending») image, none-added (self .calls));
@@ -95,7 +95,7 @@ module _ (self : SlirpBackend) (frame : List ℕ) where
   abbrev pub Foretells : (room : ℕ) → Run SlirpBackend → Outcome → Type 0
   Foretells room (gives b) o = Keeps self b × AllHandedOver frame (added (self .calls) (b .calls)) × ByRoom room (cameOf self b) o
   Foretells room panics o = AtPanic o
-  Foretells room cuts o = TooLongPing network frame (length (payload frame)) × (o ≡ unwritten (6 ∷ length (payload frame) ∷ []) (recordOf self))
+  Foretells room cuts o = TooLongPing rustNetwork frame (length (payload frame)) × (o ≡ unwritten (6 ∷ length (payload frame) ∷ []) (recordOf self))
   Foretells room unfinished o = ⊥
 
   part-length : (start len : ℕ) → start + len ≤ length frame → len ≡ length (take len (drop start frame))
@@ -116,21 +116,21 @@ module _ (self : SlirpBackend) (frame : List ℕ) where
     quiet : (b : SlirpBackend) (numbers : List ℕ) (guest : Guest) (o : Outcome) → r ≡ gives b → Came self frame b (unwritten numbers guest) → o ≡ unwritten numbers guest → Foretells room r o
     quiet b numbers guest o e c same = given b (unwritten numbers guest) o e c ((λ h. same), (λ h. absurd (omega arith)))
 
-    foretold : GuestTyped (recordOf self) → (d : Decision) → Says network frame d → Ran self frame r d → Foretells room r (outcomeOf network (recordOf self) frame room d)
+    foretold : GuestTyped (recordOf self) → (d : Decision) → Says rustNetwork frame d → Ran self frame r d → Foretells room r (outcomeOf (recordOf self) frame room d)
     unfolding Ran Says outcomeOf
     foretold typed Drop s (inl e) = quiet self _ _ _ e (came-quiet self frame (self .«dhcp_xid»)) refl
     foretold typed Drop s (inr (h, e)) = by-run panics _ e (inl (h, refl))
     foretold typed (DropNoting xid) s e = quiet _ _ _ _ e (came-quiet self frame xid) refl
     foretold typed ArpReply s e =
-        let size = arp-reads-back network frame refl .long in
+        let size = arp-reads-back rustNetwork frame refl .long in
         given _ _ _ e (came-pushed self frame _ (self .counter) (self .«dhcp_xid»)) (fits _ _ 42 room _ size, short _ _ 42 room _ size)
     foretold typed (EchoReply start) s e =
         let eight = subst (λ (n : ℕ). 8 ≤ length (drop n frame)) (sym (s .1)) (s .0 .whole) in
         let size =
-        echo-frame-reads-back network (self .counter) frame (echo (drop start frame)) refl .long ∙ ap (λ (n : ℕ). 34 + n) (length-echo (drop start frame) (omega (arith, eight))) in
+        echo-frame-reads-back rustNetwork (self .counter) frame (echo (drop start frame)) refl .long ∙ ap (λ (n : ℕ). 34 + n) (length-echo (drop start frame) (omega (arith, eight))) in
         given _ _ _ e (came-pushed self frame _ ((self .counter + 1) % 65536) (self .«dhcp_xid»)) (fits _ _ _ room _ size, short _ _ _ room _ size)
     foretold typed (DhcpReply xid type) s e =
-        let size = dhcp-reads-back network (recordOf self) frame xid type four-bytes (typed .mac .long) .long in
+        let size = dhcp-reads-back (recordOf self) frame xid type (record { mac = typed .mac .long; network = four-bytes }) .long in
         given _ _ _ e (came-pushed self frame _ ((self .counter + 1) % 65536) xid) (fits _ _ 342 room _ size, short _ _ 342 room _ size)
     foretold typed (Dns start len) s e =
         let inside = s .handed .inside in
@@ -140,10 +140,10 @@ module _ (self : SlirpBackend) (frame : List ℕ) where
         quiet _ _ _ _ e (came-called self frame _ (part-again start len inside, refl, refl, refl, refl, refl)) (ap (λ (n : ℕ). unwritten (3 ∷ start ∷ n ∷ []) (recordOf self)) (part-length start len inside))
     foretold typed (Tcp len) s e = quiet _ _ _ _ (e .1) (came-called self frame («handle_tcp» (whole frame)) refl) (ap (λ (n : ℕ). unwritten (4 ∷ n ∷ []) (recordOf self)) (e .0))
     foretold typed (TooLong len) s e =
-        by-run cuts _ e (subst (TooLongPing network frame) (s .its-length) s, ap (λ (n : ℕ). unwritten (6 ∷ n ∷ []) (recordOf self)) (s .its-length))
+        by-run cuts _ e (subst (TooLongPing rustNetwork frame) (s .its-length) s, ap (λ (n : ℕ). unwritten (6 ∷ n ∷ []) (recordOf self)) (s .its-length))
     foretold typed (CutType place) s e = by-run panics _ e (inr (place, s, refl))
 
   -- the Rust's run, and what is to come of the same frame with this room
-  pub foretells : GuestTyped (recordOf self) → Bytes frame → (room : ℕ) → Foretells room (send self (whole frame)) (outcome network (recordOf self) frame room)
+  pub foretells : GuestTyped (recordOf self) → Bytes frame → (room : ℕ) → Foretells room (send self (whole frame)) (outcome (recordOf self) frame room)
   unfolding outcome
-  foretells typed bytes room = foretold room (send self (whole frame)) typed (decision network frame) (says network frame) (send-ran self frame typed bytes)
+  foretells typed bytes room = foretold room (send self (whole frame)) typed (decision rustNetwork frame) (says rustNetwork frame) (send-ran self frame typed bytes)

@@ -9,10 +9,11 @@ use lib.Dec.{ltb, leb, eqb}
 use lib.ListN.{length}
 use Rattle.base.specs.Bytes.{be16, u8At, bytesAt}
 use Rattle.dhcp_message.specs.Message.{reply}
-use Rattle.record.proofs.Addresses.{four-bytes}
+use Rattle.equals_rust.proofs.TheNetwork.{four-bytes}
 use Rattle.dhcp_message.proofs.ReadBack.{reply-reads-back}
 use Rattle.wire.specs.Rfc894.{sourceMac}
-use Rattle.record.specs.Network.{network, gatewayMac}
+use Rattle.record.specs.Network.{gatewayMac}
+use Rattle.equals_rust.specs.Network.{rustNetwork}
 use Rattle.wire.specs.Rfc768.{datagram}
 use Rattle.wire.specs.Rfc791.{header}
 use Rattle.frames.specs.Frames.{ipFrame}
@@ -112,22 +113,22 @@ message-type-walks dhcp = scanned (suc (lenOf dhcp)) dhcp 240 (omega arith)
 -- the reply with these four bytes for its xid
 built : (mac xid : List ℕ) (type : ℕ) → List ℕ
 built mac xid type =
-    (2 ∷ 1 ∷ 6 ∷ 0 ∷ []) ++ xid ++ zeros 8 ++ network .guest ++ network .gateway ++ zeros 4 ++ mac ++ zeros 202 ++ u32ToBe 0x63825363
-    ++ option 53 (type ∷ []) ++ option 54 (network .gateway) ++ option 51 (u32ToBe 86400) ++ option 1 (network .mask) ++ option 3 (network .gateway) ++ option 6 (network .gateway) ++ (255 ∷ zeros 26)
+    (2 ∷ 1 ∷ 6 ∷ 0 ∷ []) ++ xid ++ zeros 8 ++ rustNetwork .guest ++ rustNetwork .gateway ++ zeros 4 ++ mac ++ zeros 202 ++ u32ToBe 0x63825363
+    ++ option 53 (type ∷ []) ++ option 54 (rustNetwork .gateway) ++ option 51 (u32ToBe 86400) ++ option 1 (rustNetwork .mask) ++ option 3 (rustNetwork .gateway) ++ option 6 (rustNetwork .gateway) ++ (255 ∷ zeros 26)
 
-pub build-reply-given : (xid type : ℕ) (mac : List ℕ) → length mac ≡ 6 → «build_reply» xid mac type ≡ gives (reply network mac xid type)
+pub build-reply-given : (xid type : ℕ) (mac : List ℕ) → length mac ≡ 6 → «build_reply» xid mac type ≡ gives (reply rustNetwork mac xid type)
 unfolding «build_reply» store copy reply built
 build-reply-given xid type mac six = rw (all-bytes mac 6 six) (ap (λ (x : List ℕ). gives (built (bytesAt mac 0 6) x type)) (be32-same xid))
 
 -- The frame of a reply: built for the broadcast MAC, then sent to the frame's own source.
 module _ (self : SlirpBackend) (frame : List ℕ) (typed : GuestTyped (recordOf self)) (long : 34 ≤ length frame) (xid type : ℕ) where
   pub lease-sent : «send_dhcp_reply» (withXid xid self) (whole frame) xid type
-      ≡ gives (pushed (dhcpFrame network (recordOf self) frame xid type) ((self .counter + 1) % 65536) (withXid xid self))
+      ≡ gives (pushed (dhcpFrame (recordOf self) frame xid type) ((self .counter + 1) % 65536) (withXid xid self))
   unfolding «send_dhcp_reply» dhcpFrameTo ipFrame
   lease-sent =
-      let message = reply network (self .«guest_mac») xid type in
+      let message = reply rustNetwork (self .«guest_mac») xid type in
       let whole-datagram = datagram 68 67 message in
-      let size : length message ≡ 300 = reply-reads-back network (self .«guest_mac») xid type four-bytes (typed .mac .long) .long in
+      let size : length message ≡ 300 = reply-reads-back rustNetwork (self .«guest_mac») xid type four-bytes (typed .mac .long) .long in
       rw (
         eth-src frame (omega arith),
         array-of (record { start = 6; bytes = sourceMac frame }) 6 refl,

@@ -1,3 +1,4 @@
+pub mod TheNetwork
 pub mod Operations
 pub mod Sum
 pub mod Builders

@@ -11,7 +11,7 @@ use Rattle.wire.specs.Rfc768.{sourcePort, targetPort, lengthField}
 use Rattle.wire.specs.Rfc791.{protocolOf, targetOf}
 use Rattle.wire.specs.Rfc894.{body, typeOf}
 use Rattle.wire.specs.Rfc2131.{operation, magicCookie}
-use Rattle.record.specs.Network.{network}
+use Rattle.equals_rust.specs.Network.{rustNetwork}
 use Rattle.published.specs.Rust.{panics, cuts, whole}
 use Rattle.published.specs.Backend.{SlirpBackend}
 use Rattle.published.specs.Slirp.{«handle_icmp», «handle_ip», send}
@@ -21,7 +21,7 @@ use Rattle.rules.specs.Same.{same}
 use Rattle.rules.specs.Seen.{Carries, CutMessage, TooLongPing}
 use Rattle.rules.specs.declared.decision.Decision.the-variants.{CutType}
 use Rattle.rules.proofs.Same.{equal-same}
-use Rattle.rules.proofs.Says.{too-long-decided}
+use Rattle.rules.proofs.Says.{dhcp-decided, too-long-decided}
 use Rattle.equals_rust.specs.Alike.{recordOf}
 use Rattle.equals_rust.specs.Types.{Bytes, GuestTyped}
 use Rattle.equals_rust.specs.Where.{HeaderPast}
@@ -40,16 +40,16 @@ module _ (self : SlirpBackend) (frame : List ℕ) where
         eq-eqb (typeOf frame) 0x0800 (c .ipv4),
       )
 
-  icmp-past : Carries frame 1 → targetOf (body frame) ≡ network .gateway → length frame < payloadAt frame → «handle_ip» self (whole frame) ≡ panics
+  icmp-past : Carries frame 1 → targetOf (body frame) ≡ rustNetwork .gateway → length frame < payloadAt frame → «handle_ip» self (whole frame) ≡ panics
   unfolding «handle_ip» «handle_icmp»
   icmp-past c to past =
-      let ours : same (targetOf (body frame)) (network .gateway) ≡ true = ap (λ (l : List ℕ). same l (network .gateway)) to ∙ equal-same (network .gateway) in
+      let ours : same (targetOf (body frame)) (rustNetwork .gateway) ≡ true = ap (λ (l : List ℕ). same l (rustNetwork .gateway)) to ∙ equal-same (rustNetwork .gateway) in
       rw (
         le-ltb (length frame) 34 (c .long),
         ip-proto frame (omega (arith, c .long)),
         eq-eqb (protocolOf (body frame)) 1 (c .carried),
         ip-dst frame (c .long),
-        same-array (targetOf (body frame)) (network .gateway),
+        same-array (targetOf (body frame)) (rustNetwork .gateway),
         ours,
         payload-past frame (omega (arith, c .long)) past,
       )
@@ -66,7 +66,7 @@ module _ (self : SlirpBackend) (frame : List ℕ) where
         payload-past frame (omega (arith, c .long)) past,
       )
 
-  read-past : (Carries frame 1 × (targetOf (body frame) ≡ network .gateway)) ⊎ Carries frame 17 → length frame < payloadAt frame → send self (whole frame) ≡ panics
+  read-past : (Carries frame 1 × (targetOf (body frame) ≡ rustNetwork .gateway)) ⊎ Carries frame 17 → length frame < payloadAt frame → send self (whole frame) ≡ panics
   read-past (inl (c, to)) past = ip-read 1 c ∙ icmp-past c to past
   read-past (inr c) past = ip-read 17 c ∙ udp-past c past
 
@@ -74,24 +74,11 @@ module _ (self : SlirpBackend) (frame : List ℕ) where
   header-past-panics h = read-past (h .read) (h .past)
 
 -- a DHCP message whose type is cut off is decided so
-pub cut-decided : (frame : List ℕ) (place : ℕ) → CutMessage frame place → decision network frame ≡ CutType place
-unfolding decision ipDecision udpDecision dhcpDecision
+pub cut-decided : (frame : List ℕ) (place : ℕ) → CutMessage frame place → decision rustNetwork frame ≡ CutType place
+unfolding dhcpDecision
 cut-decided frame place m =
-    let d = m .message .datagram in
-    let c = d .udp in
-    simp (
-      le-ltb (length frame) 14 (omega (arith, c .long)),
-      ne-eqb (typeOf frame) 0x0806 (λ e. omega (arith, e, c .ipv4)),
-      eq-eqb (typeOf frame) 0x0800 (c .ipv4),
-      le-ltb (length frame) 34 (c .long),
-      ne-eqb (protocolOf (body frame)) 1 (λ e. omega (arith, e, c .carried)),
-      ne-eqb (protocolOf (body frame)) 6 (λ e. omega (arith, e, c .carried)),
-      eq-eqb (protocolOf (body frame)) 17 (c .carried),
-      le-ltb (length frame) (payloadAt frame) (d .there),
-      le-ltb (length (payload frame)) 8 (d .whole),
-      le-ltb (lengthField (payload frame)) 8 (d .stated),
-      eq-eqb (sourcePort (payload frame)) 68 (m .message .from-68),
-      eq-eqb (targetPort (payload frame)) 67 (m .message .to-67),
+    dhcp-decided rustNetwork frame (m .message .datagram) (m .message .from-68) (m .message .to-67)
+    ∙ simp (
       le-ltb (length (datagramData frame)) 240 (m .message .fixed),
       eq-eqb (operation (datagramData frame)) 1 (m .message .from-client),
       eq-eqb (magicCookie (datagramData frame)) 0x63825363 (m .cookie),
@@ -103,7 +90,7 @@ module _ (self : SlirpBackend) (frame : List ℕ) (typed : GuestTyped (recordOf 
   unfolding Ran
   type-cut-panics place m = subst (Ran self frame (send self (whole frame))) (cut-decided frame place m) (send-ran self frame typed bytes)
 
-  pub ping-over-cuts : (len : ℕ) → TooLongPing network frame len → send self (whole frame) ≡ cuts
+  pub ping-over-cuts : (len : ℕ) → TooLongPing rustNetwork frame len → send self (whole frame) ≡ cuts
   unfolding Ran
   ping-over-cuts len p =
-      subst (Ran self frame (send self (whole frame))) (too-long-decided network frame (p .asked) (subst (λ (n : ℕ). 65515 < n) (p .its-length) (p .over))) (send-ran self frame typed bytes)
+      subst (Ran self frame (send self (whole frame))) (too-long-decided rustNetwork frame (p .asked) (subst (λ (n : ℕ). 65515 < n) (p .its-length) (p .over))) (send-ran self frame typed bytes)

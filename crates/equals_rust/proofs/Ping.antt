@@ -8,7 +8,7 @@ use lib.Seq.{drop-drop}
 use Rattle.base.specs.Bytes.{bytesAt}
 use Rattle.wire.specs.Rfc791.{sourceOf}
 use Rattle.wire.specs.Rfc894.{body, sourceMac}
-use Rattle.record.specs.Network.{network}
+use Rattle.equals_rust.specs.Network.{rustNetwork}
 use Rattle.frames.specs.Frames.{ipFrame}
 use Rattle.base.proofs.Lists.{part-bytes, from-on}
 use Rattle.published.specs.Rust.{Run, gives, cuts, _>>=_, Slice, whole, lenOf, zeros, range, rangeFrom, array, copy, copyFrom, u16ToBe}
@@ -86,7 +86,7 @@ module _ (self : SlirpBackend) (frame : List ℕ) (payload : Slice) (long : 34 �
 
   pub ping-answered : self .counter < 65536 → Bytes frame → Bytes (payload .bytes) → lenOf payload ≤ 65515
       → answered self frame payload
-      ≡ gives (pushed (ipFrame (sourceMac frame) (self .counter) 1 (network .gateway) (sourceOf (body frame)) (echo (payload .bytes))) ((self .counter + 1) % 65536) self)
+      ≡ gives (pushed (ipFrame (sourceMac frame) (self .counter) 1 (rustNetwork .gateway) (sourceOf (body frame)) (echo (payload .bytes))) ((self .counter + 1) % 65536) self)
   unfolding echo
   ping-answered c b bp within =
       let sum = checksum (echoWith 0 (payload .bytes)) in

@@ -18,7 +18,7 @@ use Rattle.wire.specs.Rfc792.{messageType}
 use Rattle.wire.specs.Rfc826 as Arp
 use Rattle.wire.specs.Rfc894.{body, typeOf, sourceMac}
 use Rattle.wire.specs.Rfc2131 as Dhcp
-use Rattle.record.specs.Network.{network}
+use Rattle.equals_rust.specs.Network.{rustNetwork}
 use Rattle.base.proofs.Lists.{from-on}
 use Rattle.options.specs.Rfc2132.{Walked, typed, cut, walk}
 use Rattle.published.specs.Rust.{Run, gives, panics, cuts, _>>=_, Slice, whole, range, store, copy, sameArray, u32FromBe}
@@ -49,9 +49,9 @@ use Rattle.base.proofs.Choice.{by-test}
 unfoldable pub Ran : (self : SlirpBackend) (frame : List ℕ) → Run SlirpBackend → Decision → Type 0
 Ran self frame r Drop = (r ≡ gives self) ⊎ (HeaderPast frame × (r ≡ panics))
 Ran self frame r (DropNoting xid) = r ≡ gives (withXid xid self)
-Ran self frame r ArpReply = r ≡ gives (pushed (arpReply network frame) (self .counter) self)
-Ran self frame r (EchoReply start) = r ≡ gives (pushed (echoFrame network (recordOf self) frame start) ((self .counter + 1) % 65536) self)
-Ran self frame r (DhcpReply xid type) = r ≡ gives (pushed (dhcpFrame network (recordOf self) frame xid type) ((self .counter + 1) % 65536) (withXid xid self))
+Ran self frame r ArpReply = r ≡ gives (pushed (arpReply rustNetwork frame) (self .counter) self)
+Ran self frame r (EchoReply start) = r ≡ gives (pushed (echoFrame (recordOf self) frame start) ((self .counter + 1) % 65536) self)
+Ran self frame r (DhcpReply xid type) = r ≡ gives (pushed (dhcpFrame (recordOf self) frame xid type) ((self .counter + 1) % 65536) (withXid xid self))
 Ran self frame r (Dns start len) =
     r ≡ gives (calling («handle_dns» (record { start = start; bytes = take len (drop start frame) }) (sourceMac frame) (sourceOf (body frame)) (sourcePort (payload frame))) self)
 Ran self frame r (Relay start len) =
@@ -97,11 +97,11 @@ module _ (self : SlirpBackend) (frame : List ℕ) where
   dropped = inl refl
 
   arp-replied : Ran self frame
-      (gives (pushed (replyTo (network .gateway) (Arp.senderMac (body frame)) (Arp.senderAddress (body frame))) (self .counter) self)) ArpReply
+      (gives (pushed (replyTo (rustNetwork .gateway) (Arp.senderMac (body frame)) (Arp.senderAddress (body frame))) (self .counter) self)) ArpReply
   unfolding Ran
   arp-replied = refl
 
-  arp-ran : Ran self frame («handle_arp» self (whole frame)) (arpDecision network frame)
+  arp-ran : Ran self frame («handle_arp» self (whole frame)) (arpDecision rustNetwork frame)
   unfolding «handle_arp» arpDecision copy store replyTo
   arp-ran =
       both (Ran self frame) (ltb (length frame) 42) _ _ _ _ (λ e. dropped) (λ e.
@@ -113,9 +113,9 @@ module _ (self : SlirpBackend) (frame : List ℕ) where
       rw (
         range-at arp 24 4 (omega (arith, long, behind)),
         array-of (record { start = 38; bytes = Arp.soughtAddress (body frame) }) 4 refl,
-        same-array (Arp.soughtAddress (body frame)) (network .gateway),
+        same-array (Arp.soughtAddress (body frame)) (rustNetwork .gateway),
       )
-      (both (Ran self frame) (not (same (Arp.soughtAddress (body frame)) (network .gateway))) _ _ _ _ (λ g. dropped) (λ g.
+      (both (Ran self frame) (not (same (Arp.soughtAddress (body frame)) (rustNetwork .gateway))) _ _ _ _ (λ g. dropped) (λ g.
       rw (
         range-at arp 8 6 (omega (arith, long, behind)),
         array-of (record { start = 22; bytes = Arp.senderMac (body frame) }) 6 refl,
@@ -129,7 +129,7 @@ module _ (self : SlirpBackend) (frame : List ℕ) (as-typed : GuestTyped (record
   unfolding Ran
   panicked h = inr (h, refl)
 
-  echoed : (r : Run SlirpBackend) → r ≡ gives (pushed (echoFrame network (recordOf self) frame (payloadAt frame)) ((self .counter + 1) % 65536) self)
+  echoed : (r : Run SlirpBackend) → r ≡ gives (pushed (echoFrame (recordOf self) frame (payloadAt frame)) ((self .counter + 1) % 65536) self)
       → Ran self frame r (EchoReply (payloadAt frame))
   unfolding Ran
   echoed r e = e
@@ -138,12 +138,12 @@ module _ (self : SlirpBackend) (frame : List ℕ) (as-typed : GuestTyped (record
   unfolding Ran
   cut-short r len e = e
 
-  icmp-ran : Carries frame 1 → Ran self frame («handle_icmp» self (whole frame)) (icmpDecision network frame)
+  icmp-ran : Carries frame 1 → Ran self frame («handle_icmp» self (whole frame)) (icmpDecision rustNetwork frame)
   unfolding «handle_icmp» icmpDecision
   icmp-ran icmp =
       let long = icmp .long in
-      rw (ip-dst frame long, same-array (targetOf (body frame)) (network .gateway))
-      (both (Ran self frame) (not (same (targetOf (body frame)) (network .gateway))) _ _ _ _ (λ e. dropped self frame) (λ e.
+      rw (ip-dst frame long, same-array (targetOf (body frame)) (rustNetwork .gateway))
+      (both (Ran self frame) (not (same (targetOf (body frame)) (rustNetwork .gateway))) _ _ _ _ (λ e. dropped self frame) (λ e.
       either (Ran self frame _) (ltb (length frame) (payloadAt frame)) _ _
       (λ f.
       let past = ltb-true (length frame) (payloadAt frame) f in
@@ -165,7 +165,7 @@ module _ (self : SlirpBackend) (frame : List ℕ) (as-typed : GuestTyped (record
   unfolding Ran
   noted xid = refl
 
-  leased : (r : Run SlirpBackend) (xid type : ℕ) → r ≡ gives (pushed (dhcpFrame network (recordOf self) frame xid type) ((self .counter + 1) % 65536) (withXid xid self))
+  leased : (r : Run SlirpBackend) (xid type : ℕ) → r ≡ gives (pushed (dhcpFrame (recordOf self) frame xid type) ((self .counter + 1) % 65536) (withXid xid self))
       → Ran self frame r (DhcpReply xid type)
   unfolding Ran
   leased r xid type e = e
@@ -252,7 +252,7 @@ module _ (self : SlirpBackend) (frame : List ℕ) (as-typed : GuestTyped (record
       reaches : (8 ≤ dataEnd (payload frame)) × (dataEnd (payload frame) ≤ length (payload frame))
       reaches = go (ltb (length (payload frame)) (lengthField (payload frame))) refl
 
-  udp-ran : Carries frame 17 → Ran self frame («handle_udp» self (whole frame)) (udpDecision network frame)
+  udp-ran : Carries frame 17 → Ran self frame («handle_udp» self (whole frame)) (udpDecision rustNetwork frame)
   unfolding «handle_udp» udpDecision
   udp-ran udp =
       let long = udp .long in
@@ -279,15 +279,15 @@ module _ (self : SlirpBackend) (frame : List ℕ) (as-typed : GuestTyped (record
       (both (Ran self frame) (eqb (sourcePort (payload frame)) 68 && eqb (targetPort (payload frame)) 67) _ _ _ _
       (λ l. dhcp-ran long (dataAt frame) (datagramData frame))
       (λ l.
-      rw (same-array (targetOf (body frame)) (network .gateway))
-      (both (Ran self frame) (same (targetOf (body frame)) (network .gateway) && eqb (targetPort (payload frame)) 53) _ _ _ _
+      rw (same-array (targetOf (body frame)) (rustNetwork .gateway))
+      (both (Ran self frame) (same (targetOf (body frame)) (rustNetwork .gateway) && eqb (targetPort (payload frame)) 53) _ _ _ _
       (λ m. named (dataAt frame) (dataLength frame)) (λ m. relayed (dataAt frame) (dataLength frame))))))))))
 
   handed-on : Ran self frame (gives (calling («handle_tcp» (whole frame)) self)) (Tcp (length frame))
   unfolding Ran
   handed-on = (refl, refl)
 
-  ip-ran : typeOf frame ≡ 0x0800 → Ran self frame («handle_ip» self (whole frame)) (ipDecision network frame)
+  ip-ran : typeOf frame ≡ 0x0800 → Ran self frame («handle_ip» self (whole frame)) (ipDecision rustNetwork frame)
   unfolding «handle_ip» ipDecision
   ip-ran ipv4 =
       both (Ran self frame) (ltb (length frame) 34) _ _ _ _ (λ e. dropped self frame) (λ e.
@@ -300,7 +300,7 @@ module _ (self : SlirpBackend) (frame : List ℕ) (as-typed : GuestTyped (record
       both (Ran self frame) (eqb proto 17) _ _ _ _ (λ k. udp-ran (carries 17 k)) (λ k. dropped self frame)))))
 
   -- the whole call
-  pub send-ran : Ran self frame (send self (whole frame)) (decision network frame)
+  pub send-ran : Ran self frame (send self (whole frame)) (decision rustNetwork frame)
   unfolding send decision
   send-ran =
       both (Ran self frame) (ltb (length frame) 14) _ _ _ _ (λ e. dropped self frame) (λ e.

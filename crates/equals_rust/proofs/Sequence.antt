@@ -6,7 +6,7 @@ use mathlib.Core.List.{List, [], _∷_}
 use native.Mathlib.Omega.{arith}
 use lib.Dec.{ltb}
 use lib.ListN.{length}
-use Rattle.record.specs.Network.{network}
+use Rattle.equals_rust.specs.Network.{rustNetwork}
 use Rattle.record.specs.Guest.{noting, spent}
 use Rattle.record.specs.declared.guest.Guest.{Guest}
 use Rattle.published.specs.Backend.{SlirpBackend}
@@ -38,7 +38,7 @@ module _ (guest : Guest) (typed : GuestTyped guest) where
       go true = typed
       go false = t
 
-  outcome-typed : (frame : List ℕ) (room : ℕ) (d : Decision) → GuestTyped (outcomeOf network guest frame room d .guest)
+  outcome-typed : (frame : List ℕ) (room : ℕ) (d : Decision) → GuestTyped (outcomeOf guest frame room d .guest)
   unfolding outcomeOf
   outcome-typed frame room Drop = typed
   outcome-typed frame room (DropNoting xid) = noted-typed xid
@@ -57,5 +57,5 @@ unfolding outcome
 sequence-equals-the-rust [] self typed served = tt
 sequence-equals-the-rust (x ∷ xs) self typed (m, rest) = λ b e room.
     let equal = handle-equals-the-rust self (x .frame) typed (x .bytes) (x .before) (x .after) (x .answer) m b e room in
-    let kept = subst GuestTyped (sym (m .guest) ∙ equal .guest) (outcome-typed (recordOf self) typed (x .frame) (length (x .before)) (decision network (x .frame))) in
+    let kept = subst GuestTyped (sym (m .guest) ∙ equal .guest) (outcome-typed (recordOf self) typed (x .frame) (length (x .before)) (decision rustNetwork (x .frame))) in
     (equal, sequence-equals-the-rust xs b kept (subst (λ (g : Guest). Served g xs) (equal .guest) rest))

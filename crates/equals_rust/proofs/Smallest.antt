@@ -12,7 +12,7 @@ use Rattle.base.specs.Bytes.{u8At}
 use Rattle.wire.specs.Rfc791.{headerLength, targetOf}
 use Rattle.wire.specs.Rfc792.{messageType}
 use Rattle.wire.specs.Rfc894.{body}
-use Rattle.record.specs.Network.{network}
+use Rattle.equals_rust.specs.Network.{rustNetwork}
 use Rattle.options.specs.Rfc2132.{walk, walkFrom}
 use Rattle.options.proofs.CutPlace.{cut-place}
 use Rattle.rules.specs.Rules.{payloadAt, payload, dataAt, dataLength, datagramData}
@@ -35,7 +35,7 @@ shortest-header = (record { read = inr (record { long = omega arith; ipv4 = refl
 pub no-shorter-header : (frame : List ℕ) → HeaderPast frame → 34 ≤ length frame
 no-shorter-header frame h = go (h .read)
   where
-    go : (Carries frame 1 × (targetOf (body frame) ≡ network .gateway)) ⊎ Carries frame 17 → 34 ≤ length frame
+    go : (Carries frame 1 × (targetOf (body frame) ≡ rustNetwork .gateway)) ⊎ Carries frame 17 → 34 ≤ length frame
     go (inl (c, _)) = c .long
     go (inr c) = c .long
 

@@ -10,6 +10,7 @@ use Rattle.wire.specs.Rfc894.{body, sourceMac}
 use Rattle.record.specs.Answer.{Writing, Outcome}
 use Rattle.record.specs.Guest.{known, withId}
 use Rattle.record.specs.declared.guest.Guest.{Guest}
+use Rattle.equals_rust.specs.Network.{rustNetwork}
 use Rattle.published.specs.Rust.{Slice, whole, lenOf}
 use Rattle.published.specs.Frames.{Endpoints as RustEndpoints, Counted}
 use Rattle.published.specs.Backend.{CallOut, «handle_dns», «relay_datagram», «handle_tcp», SlirpBackend}
@@ -21,9 +22,9 @@ abbrev pub theEnds : Endpoints → RustEndpoints
 theEnds ends =
     record { «dst_mac» = ends .«dst_mac»; «src_ip» = ends .«src_ip»; «src_port» = ends .«src_port»; «dst_ip» = ends .«dst_ip»; «dst_port» = ends .«dst_port» }
 
--- the record with a backend's "IP id, xid and guest MAC"
+-- the record with a backend's "IP id, xid and guest MAC", on the Rust's network
 abbrev pub recordOf : SlirpBackend → Guest
-recordOf self = known (self .«guest_mac») (self .counter) (self .«dhcp_xid»)
+recordOf self = known (self .«guest_mac») (self .counter) (self .«dhcp_xid») rustNetwork
 
 -- a call of what is outside, in document 01's numbers: where the data it is handed starts in the frame, and its length
 abbrev pub handoff : CallOut → List ℕ

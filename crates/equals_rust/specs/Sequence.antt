@@ -5,7 +5,7 @@ use mathlib.Core.List.{List, [], _∷_}
 use lib.ListN.{length}
 use Rattle.base.specs.Runs.{Runs}
 use Rattle.record.specs.Answer.{Meets}
-use Rattle.record.specs.Network.{network}
+use Rattle.equals_rust.specs.Network.{rustNetwork}
 use Rattle.record.specs.declared.answer.Answer.{Answer}
 use Rattle.record.specs.declared.guest.Guest.{Guest}
 use Rattle.published.specs.Rust.{gives, whole}
@@ -25,7 +25,7 @@ pub record Exchange : Type 0 where
 
 -- answered as `handle` promises, from this record
 abbrev pub Answered : Guest → Exchange → Type 0
-Answered guest x = Meets (outcome network guest (x .frame) (length (x .before))) (x .before) (x .after) (x .answer)
+Answered guest x = Meets (outcome guest (x .frame) (length (x .before))) (x .before) (x .after) (x .answer)
 
 -- the record that it leaves
 abbrev pub leftBy : Exchange → Guest

@@ -6,13 +6,13 @@ use mathlib.Core.List.{List}
 use lib.ListN.{length}
 use Rattle.wire.specs.Rfc791.{targetOf}
 use Rattle.wire.specs.Rfc894.{body}
-use Rattle.record.specs.Network.{network}
+use Rattle.equals_rust.specs.Network.{rustNetwork}
 use Rattle.rules.specs.Rules.{payloadAt}
 use Rattle.rules.specs.Seen.{Carries, CutMessage, TooLongPing}
 
 -- an ICMP message to the gateway, or a datagram, whose IPv4 header runs past the end of its frame
 pub record HeaderPast (frame : List ℕ) : Type 0 where
-  pub read : (Carries frame 1 × (targetOf (body frame) ≡ network .gateway)) ⊎ Carries frame 17
+  pub read : (Carries frame 1 × (targetOf (body frame) ≡ rustNetwork .gateway)) ⊎ Carries frame 17
   pub past : length frame < payloadAt frame
 
 -- a DHCP message whose type is cut off
@@ -21,4 +21,4 @@ TypeCut frame = (place : ℕ) × CutMessage frame place
 
 -- a ping whose payload is over 65,515 bytes
 abbrev pub PingOver : (frame : List ℕ) → Type 0
-PingOver frame = (len : ℕ) × TooLongPing network frame len
+PingOver frame = (len : ℕ) × TooLongPing rustNetwork frame len

@@ -6,16 +6,16 @@ use lib.ListN.{length, take, length-replicate}
 use lib.Seq.{length-take-le}
 use Rattle.record.specs.Answer.{Meets, paper}
 use Rattle.record.specs.Guest.{fresh}
-use Rattle.record.specs.Network.{network}
+use Rattle.record.specs.Network.{document01}
 use Rattle.record.specs.declared.answer.Answer.{Answer}
 use Rattle.record.specs.declared.guest.Guest.{Guest}
 use Rattle.rules.specs.Rules.{outcome}
 use Rattle.gwone.specs.Printed.{answerText, outcomeText, guestMac, room}
 
 -- with a fresh record and 2,048 bytes of room, all 0
-pub call-text : (guest : Guest) (input before after : List ℕ) (answer : Answer) → guest ≡ fresh guestMac → before ≡ room
-    → Meets (outcome network guest input (length before)) before after answer
-    → answerText (paper (answer .verdict)) after ≡ outcomeText (outcome network (fresh guestMac) input 2048)
+pub call-text : (guest : Guest) (input before after : List ℕ) (answer : Answer) → guest ≡ fresh guestMac document01 → before ≡ room
+    → Meets (outcome guest input (length before)) before after answer
+    → answerText (paper (answer .verdict)) after ≡ outcomeText (outcome (fresh guestMac document01) input 2048)
 call-text guest input before after answer g b meets =
     let known = rw (g, b, length-replicate {A = ℕ} 2048 0) at meets in
     ap₂ answerText (known .wrote .numbers) (known .wrote .bytes)

@@ -5,7 +5,7 @@ use lib.Dec.{eqb, leb, ltb}
 use lib.ListN.{length, getD, take, drop, replicate}
 use Rattle.record.specs.Answer.{Outcome}
 use Rattle.record.specs.Guest.{fresh}
-use Rattle.record.specs.Network.{network}
+use Rattle.record.specs.Network.{document01}
 use mathlib.Core.Bool.{cond}
 use Rattle.rules.specs.Rules.{outcome}
 use Rattle.gwone.specs.Text.{ascii, decimal, hex}
@@ -51,4 +51,4 @@ guestMac = 0x52 ∷ 0x54 ∷ 0x00 ∷ 0x12 ∷ 0x34 ∷ 0x56 ∷ []
 
 -- "it reads one frame from standard input (over 2,048 bytes it prints `input over 2048`), uses .. a fresh record and 2,048 bytes of room"
 unfoldable pub printed : (input : List ℕ) → List ℕ
-printed input = cond (ltb 2048 (length input)) (ascii "input over 2048\n") (outcomeText (outcome network (fresh guestMac) input 2048))
+printed input = cond (ltb 2048 (length input)) (ascii "input over 2048\n") (outcomeText (outcome (fresh guestMac document01) input 2048))

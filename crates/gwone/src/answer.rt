@@ -6,15 +6,28 @@ ghost use mathlib.Core.List.{[], _∷_, _++_};
 ghost use lib.ListN.{length, take};
 ghost use Rattle.io.specs.Counts.{Counts};
 ghost use Rattle.record.specs.Answer.{paper};
+ghost use Rattle.record.specs.Guest.{fresh};
+ghost use Rattle.record.specs.Network.{document01};
 ghost use Rattle.gwone.specs.Text.{Added, ascii, hex};
-ghost use Rattle.gwone.specs.Printed.{spaced, answerText, printed, room};
+ghost use Rattle.gwone.specs.Printed.{spaced, answerText, guestMac, printed, room};
 use crate::text::add;
 use crate::text::add_hex;
 use crate::text::add_number;
+use making::Lease;
+use making::make;
 use record::Guest;
 use record::Verdict;
 
 const GUEST_MAC: [u8; 6] = [0x52, 0x54, 0x00, 0x12, 0x34, 0x56];
+
+// Document 01's network; its lease is named, whatever a record gets that names none.
+const GATEWAY: [u8; 4] = [10, 0, 2, 2];
+
+const GUEST: [u8; 4] = [10, 0, 2, 15];
+
+const MASK: [u8; 4] = [255, 255, 255, 0];
+
+const LEASE: u32 = 86400;
 
 const FRAME_LIMIT: usize = 2048;
 
@@ -45,6 +58,14 @@ fn reply_space() -> [u8; 2048]
     [0; 2048]
 }
 
+fn new_guest() -> Guest
+    ensures { λ r. ⌜ r ≡ fresh guestMac document01 ⌝ }
+{
+    let making = make(GUEST_MAC, GATEWAY, GUEST, MASK, Lease::Named(LEASE));
+    let guest = making.guest;
+    guest
+}
+
 // All that is printed for `input`, at the front of `text`, and where it ends.
 pub fn add_printed(input: &[u8], text: &mut [u8]) -> usize
     requires { ⌜ 4224 ≤ length (now text) ⌝ }
@@ -55,7 +76,7 @@ pub fn add_printed(input: &[u8], text: &mut [u8]) -> usize
         return add(text, 0, b"input over 2048\n");
     }
     let mut reply = reply_space();
-    let answer = slirp::handle(Guest::new(GUEST_MAC), input, &mut reply);
+    let answer = slirp::handle(new_guest(), input, &mut reply);
     let verdict = answer.verdict;
     add_answer(text, verdict, &reply)
 }

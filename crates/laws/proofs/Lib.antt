@@ -8,3 +8,4 @@ pub mod DerivedDhcp
 pub mod DerivedReplies
 pub mod Demand3
 pub mod NamedFrames
+pub mod OwnNetwork

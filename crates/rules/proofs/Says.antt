@@ -1,4 +1,4 @@
--- What each decision says of its frame, by going through the tests once; and that a ping, too long or not, and a TCP frame are always decided as such.
+-- What each decision says of its frame, by going through the tests once; and that a ping, too long or not, a DHCP message and a TCP frame are always decided as such.
 use Prim.Native.Nat.{ℕ, _≤_, _<_}
 use mathlib.Core.Path.{_≡_, refl, ap, subst, subst⁻¹, _∙_}
 use mathlib.Core.Bool.{Bool, true, false, not, _&&_, cond}
@@ -224,6 +224,26 @@ module _ (net : Network) (frame : List ℕ) where
         le-ltb (length frame) (payloadAt frame) (a .there),
         le-ltb (length (payload frame)) 8 (a .whole),
         eq-eqb (messageType (payload frame)) 8 (a .request),
+      )
+
+  -- a datagram from 68 to 67 is decided by its data alone, whatever the network
+  pub dhcp-decided : Datagram frame → sourcePort (payload frame) ≡ 68 → targetPort (payload frame) ≡ 67 → decision net frame ≡ dhcpDecision (datagramData frame)
+  unfolding decision ipDecision udpDecision
+  dhcp-decided d from-68 to-67 =
+      let c = d .udp in
+      simp (
+        le-ltb (length frame) 14 (omega (arith, c .long)),
+        ne-eqb (typeOf frame) 0x0806 (λ e. omega (arith, e, c .ipv4)),
+        eq-eqb (typeOf frame) 0x0800 (c .ipv4),
+        le-ltb (length frame) 34 (c .long),
+        ne-eqb (protocolOf (body frame)) 1 (λ e. omega (arith, e, c .carried)),
+        ne-eqb (protocolOf (body frame)) 6 (λ e. omega (arith, e, c .carried)),
+        eq-eqb (protocolOf (body frame)) 17 (c .carried),
+        le-ltb (length frame) (payloadAt frame) (d .there),
+        le-ltb (length (payload frame)) 8 (d .whole),
+        le-ltb (lengthField (payload frame)) 8 (d .stated),
+        eq-eqb (sourcePort (payload frame)) 68 from-68,
+        eq-eqb (targetPort (payload frame)) 67 to-67,
       )
 
   -- a TCP frame is decided so

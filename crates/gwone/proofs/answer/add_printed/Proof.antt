@@ -18,7 +18,7 @@ returns-2 c =
     let at-handle = c .before .before .before .before .before .before in
     let at-new = at-handle .before .before in
     let at-space = at-new .before in
-    let right = call-text _ _ _ _ _ (at-new .new .ensures) (at-space .reply-space .ensures) (at-handle .handle .ensures) in
+    let right = call-text _ _ _ _ _ (at-new .new-guest .ensures) (at-space .reply-space .ensures) (at-handle .handle .ensures) in
     (rw (le-ltb _ _ (at-space .before .if1 .left)) (reworded right (c .before .before .add-answer .ensures .0)), counted _ _ (omega arith))
 
 pub add-printed-spec : {M : Type 1} → statement M
