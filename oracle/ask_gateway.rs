@@ -6,6 +6,7 @@ use published::{NetworkBackend, SlirpBackend};
 use crate::ask_dhcp::place_of_cut;
 use crate::document_01::{self, Answer, Record, Verdict};
 use crate::guest_frames::{BODY_AT, DATA_AT, PAYLOAD_AT, TOTAL_LENGTH_AT, xid_bringer};
+use crate::networks::HERE;
 use crate::the_rust::{IdCounter, half_word, is_ipv4, text_of_panic};
 
 /// Whose answer a line holds.
@@ -49,8 +50,9 @@ impl Gateway {
         self.ids.next()
     }
 
-    /// A new gateway with this record.
+    /// A new gateway with this record, whose network is the one that the Rust was compiled for.
     fn start_with(&mut self, record: Record) {
+        assert_eq!(record.network, HERE);
         self.backend = SlirpBackend::new(record.mac);
         self.bring_to(record);
     }

@@ -1,4 +1,5 @@
-//! The comparison of the published Rust with the proved code: oracle/compare says how it is run.
+//! The comparison of the published Rust with the proved code, on the network that both are compiled for:
+//! oracle/compare says how it is run.
 
 #[allow(dead_code)]
 mod ask_dhcp;
@@ -13,6 +14,7 @@ mod compare_call;
 mod compare_drawn;
 mod compare_every;
 mod compare_grammar;
+mod compare_makings;
 mod compare_ours;
 mod compare_rust;
 mod compare_sample;
@@ -37,8 +39,11 @@ mod grammar_01;
 mod guest_frames;
 #[allow(dead_code)]
 mod lines;
+mod making_02;
 #[allow(dead_code)]
 mod mended;
+#[allow(dead_code)]
+mod networks;
 mod pieces;
 #[allow(dead_code)]
 mod the_rust;
@@ -52,9 +57,11 @@ use std::time::{Duration, Instant};
 use compare_every::EVERY;
 use compare_tally::{Row, grouped, sum};
 use compare_worker::Plan;
+use networks::NUMBER;
 
 const USAGE: &str =
-    "usage: compare [--seed NUMBER] [--frames NUMBER] [--processes NUMBER] [--sample NUMBER]
+    "usage: compare [--seed NUMBER] [--frames NUMBER] [--processes NUMBER] [--sample NUMBER] [--records 1]
+  with --records the call that makes a record is compared instead
   at least 1 frame and 1 to 64 processes; oracle/compare --help says what each word is";
 
 const FRAMES: u64 = 60_000_000;
@@ -69,7 +76,7 @@ pub fn main() {
         processes: 1,
         sample: 0,
     };
-    let mut process = None;
+    let (mut process, mut records) = (None, false);
     for pair in words.chunks(2) {
         let number = pair.get(1).and_then(|word| number_of(word));
         match (pair[0].as_str(), number) {
@@ -78,20 +85,19 @@ pub fn main() {
             ("--processes", Some(number @ 1..=64)) => plan.processes = number,
             ("--sample", Some(number)) => plan.sample = number as usize,
             ("--process", Some(number)) => process = Some(number),
+            ("--records", Some(1)) => records = true,
             _ => {
                 eprintln!("{USAGE}");
                 exit(2);
             }
         }
     }
-    match process {
-        Some(process) => exit(if compare_worker::work(&plan, process) {
-            0
-        } else {
-            1
-        }),
-        None => exit(if run(&plan) { 0 } else { 1 }),
-    }
+    let is_good = match process {
+        _ if records => compare_makings::run(plan.seed),
+        Some(process) => compare_worker::work(&plan, process),
+        None => run(&plan),
+    };
+    exit(if is_good { 0 } else { 1 });
 }
 
 /// Decimal, or hexadecimal behind 0x.
@@ -176,7 +182,7 @@ fn add(rows: &mut Vec<Row>, row: Row) {
 fn run(plan: &Plan) -> bool {
     let began = Instant::now();
     eprintln!(
-        "seed {:#x}, {} frames, {} {}",
+        "network {NUMBER}, seed {:#x}, {} frames, {} {}",
         plan.seed,
         grouped(plan.frames),
         plan.processes,
@@ -320,7 +326,7 @@ fn table(plan: &Plan, told: &Told, took: Duration) -> (String, bool) {
         grouped(frames.cuts + builders.cuts)
     ));
     lines.push(format!(
-        "seed {:#x}, processes {}, {:.0} s: {} frames, {} builder calls, 0 differences",
+        "network {NUMBER}, seed {:#x}, processes {}, {:.0} s: {} frames, {} builder calls, 0 differences",
         plan.seed,
         plan.processes,
         took.as_secs_f64(),

@@ -10,6 +10,7 @@ use crate::document_01::{self, Answer, Record};
 use crate::draws::Draws;
 use crate::gateway_cases::numbers;
 use crate::lines::hex;
+use crate::networks::HERE;
 
 /// A call but for the record's id, which is where the Rust's counter stands.
 #[derive(Clone)]
@@ -58,6 +59,7 @@ impl Sides {
             mac: input.mac,
             id: self.rust.ids.next(),
             xid: input.xid,
+            network: HERE,
         }
     }
 
@@ -164,10 +166,14 @@ fn shown_ours(told: &Told, lent: &[u8]) -> String {
 fn words(number: u32, values: [u64; 2], after: Record, reply: &[u8]) -> String {
     let [value, len] = values;
     let (mac, id, xid) = (hex(&after.mac), after.id, after.xid);
+    let network = match after.network {
+        HERE => String::new(),
+        other => format!(", on {other:?}"),
+    };
     let start = &reply[..reply.len().min(SHOWN)];
     let dots = if reply.len() > SHOWN { ".." } else { "" };
     let reply = hex(start) + dots;
     format!(
-        "verdict {number}, values {value} {len}; record after: mac {mac}, id {id}, xid {xid:#010x}; reply: {reply}"
+        "verdict {number}, values {value} {len}; record after: mac {mac}, id {id}, xid {xid:#010x}{network}; reply: {reply}"
     )
 }

@@ -3,6 +3,7 @@
 
 use crate::draws::{GATEWAY_IP, GUEST_MAC};
 use crate::guest_frames::*;
+use crate::networks::STRANGER;
 
 /// All that a class has, and the frame that each of its numbers stands for.
 pub struct Every {
@@ -166,7 +167,7 @@ fn udp_length(n: usize) -> Vec<u8> {
     };
     let source = digits.one_of(&[68, 67, 53, 40_000]);
     let destination = digits.one_of(&[67, 68, 53, 80]);
-    let target = digits.one_of(&[GATEWAY_IP, [10, 0, 2, 3], EVERYONE]);
+    let target = digits.one_of(&[GATEWAY_IP, STRANGER, EVERYONE]);
     let frame = udp(source, target, destination, &data);
     with(frame, UDP_LENGTH_AT, &field.to_be_bytes())
 }

@@ -3,6 +3,7 @@
 use crate::cases::Call;
 use crate::document_01::Record;
 use crate::draws::Draws;
+use crate::networks::Network;
 
 // The functions that compared.rt.txt exports; a slice is a pointer and a length.
 unsafe extern "C" {
@@ -10,6 +11,7 @@ unsafe extern "C" {
         mac: *mut u8,
         id: *mut u16,
         xid: *mut u32,
+        network: *mut u32,
         frame: *const u8,
         frame_len: usize,
         reply: *mut u8,
@@ -21,6 +23,7 @@ unsafe extern "C" {
         mac: *mut u8,
         id: *mut u16,
         xid: *mut u32,
+        network: *mut u32,
         dst_mac: *const u8,
         src_ip: *const u8,
         dst_ip: *const u8,
@@ -46,6 +49,7 @@ unsafe extern "C" {
         mac: *mut u8,
         id: *mut u16,
         xid: *mut u32,
+        network: *mut u32,
         dst_mac: *const u8,
         src_ip: *const u8,
         src_port: u16,
@@ -64,6 +68,7 @@ unsafe extern "C" {
     fn compared_dhcp_reply(
         mac: *const u8,
         xid: u32,
+        network: *const u32,
         kind: u8,
         out: *mut u8,
         room: usize,
@@ -73,6 +78,14 @@ unsafe extern "C" {
     fn compared_message_type(data: *const u8, data_len: usize, values: *mut u64) -> u32;
 
     fn compared_checksum(input: *const u8, len: usize) -> u16;
+
+    fn compared_make(
+        mac: *mut u8,
+        id: *mut u16,
+        xid: *mut u32,
+        network: *mut u32,
+        lease_named: u32,
+    ) -> u32;
 }
 
 /// What a call of ours answers, beside what it wrote.
@@ -86,13 +99,32 @@ pub struct Told {
 /// No call leaves these: each writes both values.
 const UNWRITTEN: [u64; 2] = [u64::MAX; 2];
 
+/// The network as it is lent.
+fn four_numbers(network: Network) -> [u32; 4] {
+    let [gateway, guest, mask] =
+        [network.gateway, network.guest, network.mask].map(u32::from_be_bytes);
+    [gateway, guest, mask, network.lease]
+}
+
+fn network_of(numbers: [u32; 4]) -> Network {
+    let [gateway, guest, mask] = [numbers[0], numbers[1], numbers[2]].map(u32::to_be_bytes);
+    Network {
+        gateway,
+        guest,
+        mask,
+        lease: numbers[3],
+    }
+}
+
 pub fn handle(record: Record, frame: &[u8], reply: &mut [u8]) -> Told {
     let (mut after, mut values) = (record, UNWRITTEN);
+    let mut network = four_numbers(record.network);
     let number = unsafe {
         compared_handle(
             after.mac.as_mut_ptr(),
             &mut after.id,
             &mut after.xid,
+            network.as_mut_ptr(),
             frame.as_ptr(),
             frame.len(),
             reply.as_mut_ptr(),
@@ -100,6 +132,7 @@ pub fn handle(record: Record, frame: &[u8], reply: &mut [u8]) -> Told {
             values.as_mut_ptr(),
         )
     };
+    after.network = network_of(network);
     Told {
         number,
         values,
@@ -110,7 +143,9 @@ pub fn handle(record: Record, frame: &[u8], reply: &mut [u8]) -> Told {
 /// A call of a builder. A datagram takes no id, so there the record is handed back as it is.
 pub fn built(record: Record, call: &Call, payload: &[u8], out: &mut [u8]) -> Told {
     let (mut after, mut values) = (record, UNWRITTEN);
+    let mut numbers = four_numbers(record.network);
     let (mac, id, xid) = (after.mac.as_mut_ptr(), &mut after.id, &mut after.xid);
+    let network = numbers.as_mut_ptr();
     let (bytes, len) = (payload.as_ptr(), payload.len());
     let (at, room, told) = (out.as_mut_ptr(), out.len(), values.as_mut_ptr());
     let number = unsafe {
@@ -124,6 +159,7 @@ pub fn built(record: Record, call: &Call, payload: &[u8], out: &mut [u8]) -> Tol
                 mac,
                 id,
                 xid,
+                network,
                 dst_mac.as_ptr(),
                 src_ip.as_ptr(),
                 dst_ip.as_ptr(),
@@ -148,6 +184,7 @@ pub fn built(record: Record, call: &Call, payload: &[u8], out: &mut [u8]) -> Tol
                 mac,
                 id,
                 xid,
+                network,
                 dst_mac.as_ptr(),
                 src.0.as_ptr(),
                 src.1,
@@ -164,6 +201,7 @@ pub fn built(record: Record, call: &Call, payload: &[u8], out: &mut [u8]) -> Tol
             ),
         }
     };
+    after.network = network_of(numbers);
     Told {
         number,
         values,
@@ -171,13 +209,14 @@ pub fn built(record: Record, call: &Call, payload: &[u8], out: &mut [u8]) -> Tol
     }
 }
 
-/// The reply takes its MAC and its xid from the record, and changes neither.
+/// The reply takes MAC, xid and network from the record, and changes none of them.
 pub fn dhcp_reply(record: Record, kind: u8, out: &mut [u8]) -> Told {
     let mut values = UNWRITTEN;
     let number = unsafe {
         compared_dhcp_reply(
             record.mac.as_ptr(),
             record.xid,
+            four_numbers(record.network).as_ptr(),
             kind,
             out.as_mut_ptr(),
             out.len(),
@@ -200,6 +239,22 @@ pub fn message_type(data: &[u8]) -> (u32, [u64; 2]) {
 
 pub fn checksum(input: &[u8]) -> u16 {
     unsafe { compared_checksum(input.as_ptr(), input.len()) }
+}
+
+/// What a record is made with: its MAC, its addresses and mask, and a number that names the lease time
+/// where `is_named` is not 0.
+pub fn make(mac: [u8; 6], network: Network, is_named: u32) -> (u32, Record) {
+    let (mut mac, mut id, mut xid) = (mac, !0, !0);
+    let mut numbers = four_numbers(network);
+    let network = numbers.as_mut_ptr();
+    let number = unsafe { compared_make(mac.as_mut_ptr(), &mut id, &mut xid, network, is_named) };
+    let record = Record {
+        mac,
+        id,
+        xid,
+        network: network_of(numbers),
+    };
+    (number, record)
 }
 
 /// Bytes around what is lent, which no call may touch.

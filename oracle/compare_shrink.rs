@@ -7,6 +7,7 @@ use crate::draws::GUEST_MAC;
 use crate::gateway_cases::{FRESH, USUAL_ROOM};
 use crate::guest_frames::{BODY_AT, PAYLOAD_AT};
 use crate::lines::hex;
+use crate::networks::{HERE, NUMBER};
 
 const LONGEST: Duration = Duration::from_secs(20);
 /// What `gwone` reads.
@@ -133,7 +134,9 @@ pub fn report(sides: &mut Sides, input: Input, difference: Difference) -> String
     );
     text += &call_text(&best, Some(difference.id));
     text += &format!("(shrunk from {first_len} bytes)\n");
-    if best.builder.is_none() && !shows_with_gwone {
+    if NUMBER != 0 {
+        text += &format!("(gwone is on document 01's network, and this is {HERE:?})\n");
+    } else if best.builder.is_none() && !shows_with_gwone {
         text += &format!(
             "(gwone has mac {}, id 1, xid 0, a room of {USUAL_ROOM} and reads at most {MOST_READ} bytes: with these it does not show)\n",
             hex(&GUEST_MAC)

@@ -6,23 +6,25 @@ typedef struct {
 } Slice;
 
 #define WITHIN(name) __asm__("unproved::" name)
-unsigned handle_within(void *, void *, void *, Slice *, Slice *, void *) WITHIN("compared_handle");
-unsigned ip_frame_within(void *, void *, void *, const void *, const void *, const void *, unsigned char, Slice *, Slice *, void *) WITHIN("compared_ip_frame");
+unsigned handle_within(void *, void *, void *, void *, Slice *, Slice *, void *) WITHIN("compared_handle");
+unsigned ip_frame_within(void *, void *, void *, void *, const void *, const void *, const void *, unsigned char, Slice *, Slice *, void *) WITHIN("compared_ip_frame");
 unsigned udp_payload_within(unsigned short, unsigned short, Slice *, Slice *, void *) WITHIN("compared_udp_payload");
-unsigned tcp_frame_within(void *, void *, void *, const void *, const void *, unsigned short, const void *, unsigned short, unsigned, unsigned, unsigned char, Slice *, Slice *, void *) WITHIN("compared_tcp_frame");
-unsigned dhcp_reply_within(const void *, unsigned, unsigned char, Slice *, void *) WITHIN("compared_dhcp_reply");
+unsigned tcp_frame_within(void *, void *, void *, void *, const void *, const void *, unsigned short, const void *, unsigned short, unsigned, unsigned, unsigned char, Slice *, Slice *, void *) WITHIN("compared_tcp_frame");
+unsigned dhcp_reply_within(const void *, unsigned, const void *, unsigned char, Slice *, void *) WITHIN("compared_dhcp_reply");
 unsigned message_type_within(Slice *, void *) WITHIN("compared_message_type");
 unsigned short checksum_within(Slice *) WITHIN("compared_checksum");
+unsigned make_within(void *, void *, void *, void *, unsigned) WITHIN("compared_make");
 
-unsigned compared_handle(void *mac, void *id, void *xid, const void *frame, unsigned long frame_len, void *reply, unsigned long room, void *values) {
+unsigned compared_handle(void *mac, void *id, void *xid, void *network, const void *frame, unsigned long frame_len, void *reply, unsigned long room,
+                         void *values) {
     Slice in = {frame, frame_len}, out = {reply, room};
-    return handle_within(mac, id, xid, &in, &out, values);
+    return handle_within(mac, id, xid, network, &in, &out, values);
 }
 
-unsigned compared_ip_frame(void *mac, void *id, void *xid, const void *dst_mac, const void *src_ip, const void *dst_ip, unsigned char proto,
+unsigned compared_ip_frame(void *mac, void *id, void *xid, void *network, const void *dst_mac, const void *src_ip, const void *dst_ip, unsigned char proto,
                            const void *payload, unsigned long len, void *reply, unsigned long room, void *values) {
     Slice in = {payload, len}, out = {reply, room};
-    return ip_frame_within(mac, id, xid, dst_mac, src_ip, dst_ip, proto, &in, &out, values);
+    return ip_frame_within(mac, id, xid, network, dst_mac, src_ip, dst_ip, proto, &in, &out, values);
 }
 
 unsigned compared_udp_payload(unsigned short src_port, unsigned short dst_port, const void *data, unsigned long len, void *reply,
@@ -31,16 +33,16 @@ unsigned compared_udp_payload(unsigned short src_port, unsigned short dst_port, 
     return udp_payload_within(src_port, dst_port, &in, &out, values);
 }
 
-unsigned compared_tcp_frame(void *mac, void *id, void *xid, const void *dst_mac, const void *src_ip, unsigned short src_port, const void *dst_ip,
+unsigned compared_tcp_frame(void *mac, void *id, void *xid, void *network, const void *dst_mac, const void *src_ip, unsigned short src_port, const void *dst_ip,
                             unsigned short dst_port, unsigned seq, unsigned ack, unsigned char flags, const void *data, unsigned long len,
                             void *reply, unsigned long room, void *values) {
     Slice in = {data, len}, out = {reply, room};
-    return tcp_frame_within(mac, id, xid, dst_mac, src_ip, src_port, dst_ip, dst_port, seq, ack, flags, &in, &out, values);
+    return tcp_frame_within(mac, id, xid, network, dst_mac, src_ip, src_port, dst_ip, dst_port, seq, ack, flags, &in, &out, values);
 }
 
-unsigned compared_dhcp_reply(const void *mac, unsigned xid, unsigned char kind, void *reply, unsigned long room, void *values) {
+unsigned compared_dhcp_reply(const void *mac, unsigned xid, const void *network, unsigned char kind, void *reply, unsigned long room, void *values) {
     Slice out = {reply, room};
-    return dhcp_reply_within(mac, xid, kind, &out, values);
+    return dhcp_reply_within(mac, xid, network, kind, &out, values);
 }
 
 unsigned compared_message_type(const void *data, unsigned long len, void *values) {
@@ -51,4 +53,8 @@ unsigned compared_message_type(const void *data, unsigned long len, void *values
 unsigned short compared_checksum(const void *input, unsigned long len) {
     Slice in = {input, len};
     return checksum_within(&in);
+}
+
+unsigned compared_make(void *mac, void *id, void *xid, void *network, unsigned lease_named) {
+    return make_within(mac, id, xid, network, lease_named);
 }

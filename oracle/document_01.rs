@@ -1,13 +1,16 @@
 //! Document 01's answer to one call, read from its text a second time and not from the Rust: the
-//! order of tests on a guest's frame, the frames built, and the record.
+//! order of tests on a guest's frame, the frames built, and the record. Addresses, mask and lease time
+//! are the record's, as document 02's request 1/13 has it.
 
-use crate::draws::{BROADCAST_IP, GATEWAY_IP, GATEWAY_MAC};
+use crate::draws::GATEWAY_MAC;
+use crate::networks::Network;
 
 #[derive(Clone, Copy, Debug, PartialEq)]
 pub struct Record {
     pub mac: [u8; 6],
     pub id: u16,
     pub xid: u32,
+    pub network: Network,
 }
 
 #[derive(Clone, Copy, Debug, PartialEq)]
@@ -73,7 +76,7 @@ fn number(bytes: &[u8]) -> u64 {
 }
 
 fn arp(record: Record, frame: &[u8], room: usize) -> Answer {
-    if frame.len() < 42 || number(&frame[20..22]) != 1 || frame[38..42] != GATEWAY_IP {
+    if frame.len() < 42 || number(&frame[20..22]) != 1 || frame[38..42] != record.network.gateway {
         return without_reply(record, Verdict::Drop);
     }
     let (sender_mac, sender) = (&frame[22..28], &frame[28..32]);
@@ -82,7 +85,7 @@ fn arp(record: Record, frame: &[u8], room: usize) -> Answer {
         &GATEWAY_MAC,
         &[0x08, 0x06, 0, 1, 0x08, 0x00, 6, 4, 0, 2],
         &GATEWAY_MAC,
-        &GATEWAY_IP,
+        &record.network.gateway,
         sender_mac,
         sender,
     ];
@@ -94,7 +97,7 @@ fn ipv4(record: Record, frame: &[u8], room: usize) -> Answer {
         return without_reply(record, Verdict::Drop);
     }
     let payload_at = 14 + 4 * usize::from(frame[14] % 16);
-    let to_gateway = frame[30..34] == GATEWAY_IP;
+    let to_gateway = frame[30..34] == record.network.gateway;
     match frame[23] {
         1 if to_gateway && payload_at <= frame.len() => icmp(record, frame, payload_at, room),
         6 => without_reply(record, Verdict::Tcp(frame.len())),
@@ -128,7 +131,7 @@ fn udp(record: Record, frame: &[u8], payload_at: usize, room: usize) -> Answer {
     if source == 68 && destination == 67 {
         return dhcp(record, frame, &payload[8..end], room);
     }
-    if frame[30..34] == GATEWAY_IP && destination == 53 {
+    if frame[30..34] == record.network.gateway && destination == 53 {
         return without_reply(record, Verdict::Dns { start, len });
     }
     without_reply(record, Verdict::Relay { start, len })
@@ -151,7 +154,8 @@ fn dhcp(record: Record, frame: &[u8], data: &[u8], room: usize) -> Answer {
     };
     let message = dhcp_reply(taken, reply_type);
     let udp = [&[0, 68, 0, 67, 1, 52, 0, 0], &message[..]].concat();
-    let reply = ip_frame(record, &frame[6..12], &BROADCAST_IP, 17, &udp);
+    let target = broadcast(record.network);
+    let reply = ip_frame(record, &frame[6..12], &target, 17, &udp);
     built(record, with_id_spent(taken), reply, room)
 }
 
@@ -169,21 +173,40 @@ fn message_type(data: &[u8]) -> Result<u8, usize> {
     }
 }
 
+/// The guest's address with every host bit set, which is the highest of its network.
+fn broadcast(network: Network) -> [u8; 4] {
+    let addresses = (1 << 32) - number(&network.mask);
+    let lowest = number(&network.guest) / addresses * addresses;
+    ((lowest + addresses - 1) as u32).to_be_bytes()
+}
+
 fn dhcp_reply(record: Record, message_type: u8) -> Vec<u8> {
+    let Network {
+        gateway,
+        guest,
+        mask,
+        lease,
+    } = record.network;
     let mut reply = vec![0; 300];
     let mut put = |at: usize, bytes: &[u8]| reply[at..at + bytes.len()].copy_from_slice(bytes);
     put(0, &[2, 1, 6, 0]);
     put(4, &record.xid.to_be_bytes());
-    put(16, &[10, 0, 2, 15]);
-    put(20, &[10, 0, 2, 2]);
+    put(16, &guest);
+    put(20, &gateway);
     put(28, &record.mac);
     put(236, &[0x63, 0x82, 0x53, 0x63]);
     put(240, &[53, 1, message_type]);
-    put(243, &[54, 4, 10, 0, 2, 2]);
-    put(249, &[51, 4, 0, 1, 0x51, 0x80]);
-    put(255, &[1, 4, 255, 255, 255, 0]);
-    put(261, &[3, 4, 10, 0, 2, 2]);
-    put(267, &[6, 4, 10, 0, 2, 2]);
+    let rows = [
+        (54, gateway),
+        (51, lease.to_be_bytes()),
+        (1, mask),
+        (3, gateway),
+        (6, gateway),
+    ];
+    for (row, (code, value)) in rows.into_iter().enumerate() {
+        put(243 + 6 * row, &[code, 4]);
+        put(245 + 6 * row, &value);
+    }
     put(273, &[255]);
     reply
 }
@@ -213,7 +236,7 @@ pub fn ip_frame(
             &record.id.to_be_bytes(),
             &[0x40, 0x00, 64, protocol],
             &sum,
-            &GATEWAY_IP,
+            &record.network.gateway,
             target,
         ]
         .concat()

@@ -1,15 +1,18 @@
 //! Draws that are the same in every run: xorshift64 from a fixed seed.
 
+use crate::networks::{BROADCAST, HERE};
+
 /// Each list has a seed of its own, so that none moves another's draws.
 pub const BUILDERS_SEED: u64 = 0x9e37_79b9_7f4a_7c15;
 pub const DHCP_SEED: u64 = 0x2545_f491_4f6c_dd1d;
 pub const GATEWAY_SEED: u64 = 0xd1b5_4a32_d192_ed03;
 #[allow(dead_code)] // by oracle/vectors
 pub const READINGS_SEED: u64 = 0xbf58_476d_1ce4_e5b9;
+pub const NETWORKS_SEED: u64 = 0x94d0_49bb_1331_11eb;
 
-pub const GATEWAY_IP: [u8; 4] = [10, 0, 2, 2];
-pub const GUEST_IP: [u8; 4] = [10, 0, 2, 15];
-pub const BROADCAST_IP: [u8; 4] = [10, 0, 2, 255];
+pub const GATEWAY_IP: [u8; 4] = HERE.gateway;
+pub const GUEST_IP: [u8; 4] = HERE.guest;
+pub const BROADCAST_IP: [u8; 4] = BROADCAST;
 pub const GATEWAY_MAC: [u8; 6] = [0x52, 0x54, 0x00, 0x00, 0x00, 0x01];
 pub const GUEST_MAC: [u8; 6] = [0x52, 0x54, 0x00, 0x12, 0x34, 0x56];
 

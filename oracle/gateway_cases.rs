@@ -6,11 +6,12 @@ use std::collections::BTreeMap;
 use crate::ask_gateway::{Gateway, Whose};
 use crate::cases::MOST_ROOM;
 use crate::document_01::{Answer, Record, Verdict};
-use crate::draws::{Draws, GATEWAY_SEED, GUEST_MAC};
+use crate::draws::{Draws, GUEST_MAC};
 use crate::lines::{Lines, hex};
+use crate::networks::{HERE, NUMBER, Network};
 use crate::pieces::{laid, pieces};
 
-const WITH_RECORD: u8 = 0x0d;
+const WITH_RECORD: u8 = if NUMBER == 0 { 0x0d } else { 0x0f };
 const GOES_ON: u8 = 0x0e;
 
 /// The room that `gwone` lends, and more than most replies take.
@@ -21,6 +22,7 @@ pub const FRESH: Record = Record {
     mac: GUEST_MAC,
     id: 1,
     xid: 0,
+    network: HERE,
 };
 
 pub struct GatewayList {
@@ -34,9 +36,9 @@ pub struct GatewayList {
 }
 
 impl GatewayList {
-    pub fn new() -> Self {
+    pub fn new(seed: u64) -> Self {
         GatewayList {
-            draws: Draws::new(GATEWAY_SEED),
+            draws: Draws::new(seed),
             lines: Lines::new(),
             rust: Gateway::new(),
             record: FRESH,
@@ -61,6 +63,7 @@ impl GatewayList {
             mac: self.draws.mac(),
             id: self.rust.next_id().wrapping_add(step),
             xid: self.draws.word(),
+            network: HERE,
         }
     }
 
@@ -142,8 +145,20 @@ impl GatewayList {
     }
 }
 
+/// On document 01's network the line does not name it.
 fn before_call(record: Record) -> String {
-    format!(" {:04x}{:08x}", record.id, record.xid)
+    let id_and_xid = format!(" {:04x}{:08x}", record.id, record.xid);
+    if NUMBER == 0 {
+        return id_and_xid;
+    }
+    let Network {
+        gateway,
+        guest,
+        mask,
+        lease,
+    } = record.network;
+    let network = [gateway, guest, mask, lease.to_be_bytes()].concat();
+    format!(" {}{id_and_xid}", hex(&network))
 }
 
 /// The line of a call with its record.

@@ -10,6 +10,7 @@ use crate::draws::GATEWAY_IP;
 use crate::gateway_cases::{FRESH, GatewayList, USUAL_ROOM};
 use crate::guest_frames::*;
 use crate::lines::ruled_bytes;
+use crate::networks::HERE;
 
 pub const SEQUENCES: [(&str, fn(&mut GatewayList)); 4] = [
     (
@@ -57,6 +58,7 @@ fn through_the_wrap(list: &mut GatewayList) {
         mac: [2, 0, 0, 0, 0, 0x0c],
         id: 65_533,
         xid: 0xa1a2_a3a4,
+        network: HERE,
     };
     list.call(start, &arp(1, GATEWAY_IP), USUAL_ROOM);
     for turn in 0..7 {
@@ -93,6 +95,7 @@ fn leases(list: &mut GatewayList) {
         mac: [2, 0, 0, 0, 0, 0x0d],
         id: 40_000,
         xid: 0,
+        network: HERE,
     };
     let messages = messages();
     list.call(start, &dhcp(&messages[0]), USUAL_ROOM);
@@ -113,6 +116,7 @@ fn drawn_sequence(list: &mut GatewayList) {
         mac: [2, 0, 0, 0, 0, 0x0e],
         id: 65_532,
         xid: 0xffff_ffff,
+        network: HERE,
     };
     list.call(start, &ping(&[]), USUAL_ROOM);
     for _ in 0..100 {

@@ -70,7 +70,7 @@ const GROUPS: [(&str, fn(&mut GatewayList)); 37] = [
 ];
 
 pub fn list() -> String {
-    let mut list = GatewayList::new();
+    let mut list = GatewayList::new(GATEWAY_SEED);
     let lines = &mut list.lines;
     lines.comment("Calls of the gateway: what vpod's slirp does with a guest's frame.");
     lines.comment("Printed by oracle/vectors; oracle/README.md says what a line holds.");
@@ -636,7 +636,12 @@ fn ids(list: &mut GatewayList) {
     for (turn, id) in ids.into_iter().enumerate() {
         let xid = list.draws.word();
         let mac = macs[turn % 4];
-        let record = Record { mac, id, xid };
+        let record = Record {
+            mac,
+            id,
+            xid,
+            ..FRESH
+        };
         let ping = ping(&[turn as u8]);
         let discover = dhcp(&dhcp_message(xid.wrapping_add(1), &DISCOVER));
         for (frame, room) in [

@@ -2,6 +2,7 @@
 //! spend ids.
 
 use crate::draws::{BROADCAST_IP, GATEWAY_IP, GATEWAY_MAC, GUEST_IP, GUEST_MAC};
+use crate::networks::STRANGER;
 
 pub const ARP: u16 = 0x0806;
 pub const IPV4: u16 = 0x0800;
@@ -38,7 +39,7 @@ pub const TARGETS: [[u8; 4]; 7] = [
     BROADCAST_IP,
     GUEST_IP,
     ELSEWHERE,
-    [10, 0, 2, 3],
+    STRANGER,
     [0; 4],
 ];
 

@@ -1,4 +1,5 @@
-//! The driver: calls the published Rust and prints what it answers.
+//! The driver: calls the published Rust and prints what it answers, on document 01's network or on the
+//! other one that it was compiled for.
 
 mod ask_dhcp;
 mod ask_gateway;
@@ -17,11 +18,17 @@ mod gateway_sequences;
 mod gateway_vectors;
 mod guest_frames;
 mod lines;
+mod network_vectors;
+mod networks;
 mod pieces;
 #[allow(dead_code)]
 mod the_rust;
 
 fn main() {
+    if networks::NUMBER != 0 {
+        print!("{}", network_vectors::list());
+        return;
+    }
     print!("{}", builder_vectors::list());
     print!("{}", dhcp_vectors::list());
     print!("{}", gateway_vectors::list());

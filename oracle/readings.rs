@@ -13,6 +13,8 @@ mod guest_frames;
 mod lines;
 mod mended;
 #[allow(dead_code)]
+mod networks;
+#[allow(dead_code)]
 mod pieces;
 mod reading_cases;
 mod readings_captured;

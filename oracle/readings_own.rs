@@ -5,6 +5,7 @@ use crate::document_01::{Record, ip_frame};
 use crate::draws::{GUEST_IP, GUEST_MAC};
 use crate::grammar_01::Kind;
 use crate::lines::{bytes_of, ruled_bytes};
+use crate::networks::HERE;
 use crate::pieces::laid;
 use crate::reading_cases::{Origin, ReadingList};
 
@@ -109,6 +110,7 @@ fn datagrams(list: &mut ReadingList) {
             mac: GUEST_MAC,
             id: turn as u16,
             xid: 0,
+            network: HERE,
         };
         let frame = ip_frame(record, &GUEST_MAC, &GUEST_IP, 17, &datagram);
         if frame.len() <= LONGEST {

@@ -7,6 +7,8 @@ mod antt_text;
 mod draws;
 #[allow(dead_code)]
 mod guest_frames;
+#[allow(dead_code)]
+mod networks;
 mod run_inputs;
 mod run_rows;
 #[allow(dead_code)]

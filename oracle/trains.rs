@@ -6,6 +6,8 @@
 mod draws;
 #[allow(dead_code)]
 mod lines;
+#[allow(dead_code)]
+mod networks;
 mod reassembly_02;
 mod train_frames;
 mod train_list;

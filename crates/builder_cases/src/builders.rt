@@ -20,7 +20,7 @@ const UDP_PAYLOAD: u8 = 2;
 
 const TCP_FRAME: u8 = 3;
 
-// Of the record of every call: no builder may change them.
+// Of the record of every call: no builder may change them, nor the network.
 const MAC: [u8; 6] = [1, 2, 3, 4, 5, 6];
 
 const XID: u32 = 0x0708090a;
@@ -123,7 +123,11 @@ fn tcp_frame(line: &[u8], payload: &[u8], out: &mut [u8]) -> Answer {
 }
 
 fn guest(line: &[u8]) -> Guest {
-    Guest::of(MAC, u16be(line, 1), XID)
+    known(u16be(line, 1))
+}
+
+fn known(id: u16) -> Guest {
+    Guest::of(MAC, id, XID, vectors::network())
 }
 
 // Besides verdict and bytes the record: an IPv4 frame built spends the id, and the rest is kept.
@@ -140,10 +144,6 @@ fn is_answer(
     let after = answer.guest;
     let spent = (e.number == 1) & (builder != UDP_PAYLOAD);
     let id = std::num::wrapping_add_u16(u16be(line, 1), spent as u16);
-    is_record(after, id) & answers::is_expected(e.number, e.value, head, payload, verdict, out)
-}
-
-fn is_record(guest: Guest, id: u16) -> bool {
-    let mac = guest.mac;
-    check::same(&mac, &MAC) & (guest.id == id) & (guest.xid == XID)
+    vectors::same_record(after, known(id))
+        & answers::is_expected(e.number, e.value, head, payload, verdict, out)
 }

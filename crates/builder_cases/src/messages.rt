@@ -1,7 +1,6 @@
 // DHCP lines: the walk over a message's options, the types of replies, and the reply.
 use crate::answers;
 use options::Found;
-use record::Network;
 use wire::bytes::byte_at;
 use wire::bytes::mac_at;
 use wire::bytes::u16be;
@@ -84,7 +83,7 @@ pub fn builds_reply(line: &[u8]) -> bool {
         return false;
     }
     let verdict = dhcp_message::build_reply(
-        Network::new(),
+        vectors::network(),
         mac_at(line, 5),
         u32be(line, 1),
         byte_at(line, 11),

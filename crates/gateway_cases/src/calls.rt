@@ -1,21 +1,26 @@
 // One call: the record, the room and the frame that a line holds, and whether verdict, reply and record
 // come out as it says.
 ghost use mathlib.Core.Path.{_≡_};
-ghost use Rattle.gateway_cases.specs.Calls.{Called, Judged, isCall};
+ghost use Rattle.gateway_cases.specs.Calls.{Called, Judged, fieldsOf, isCall};
 use crate::pieces;
 use record::Guest;
+use record::Network;
 use record::Verdict;
+use wire::bytes::address_at;
 use wire::bytes::byte_at;
 use wire::bytes::mac_at;
 use wire::bytes::u16be;
 use wire::bytes::u32be;
 
-// A call with the record before it, and one that goes on with the record that the last one left.
+// A call on document 01's network with id and xid before it, one that goes on with the record that the last one left, and
+// one with its network before id and xid.
 const WITH_RECORD: u8 = 13;
 
 const GOES_ON: u8 = 14;
 
-// Where the fields stand that both kinds have, from the record after the call on.
+const ON_NETWORK: u8 = 15;
+
+// Where the fields stand that all kinds have, from the record after the call on.
 const WHOSE_AT: usize = 12;
 
 const ROOM_AT: usize = 13;
@@ -56,21 +61,51 @@ struct Checked {
 pub fn is_call(kind: u8) -> bool
     ensures { λ r. ⌜ r ≡ isCall kind ⌝ }
 {
-    (kind == WITH_RECORD) | (kind == GOES_ON)
+    (kind == WITH_RECORD) | (kind == GOES_ON) | (kind == ON_NETWORK)
 }
 
 pub fn called(line: &[u8], last: Guest) -> Outcome
     ensures { λ r. ⌜ Called (now (line .entry)) r ⌝ }
 {
-    if byte_at(line, 0) % vectors::SPOILED == GOES_ON {
-        return judged(vectors::rest(line, 1), last);
-    }
-    judged(vectors::rest(line, 7), record_before(line))
+    let kind = byte_at(line, 0) % vectors::SPOILED;
+    judged(fields_of(line, kind), record_before(line, kind, last))
 }
 
-// It has the MAC of the record after the call.
-fn record_before(line: &[u8]) -> Guest {
-    Guest::of(mac_at(line, 7), u16be(line, 1), u32be(line, 3))
+fn fields_of(line: &[u8], kind: u8) -> &[u8]
+    ensures { λ r. ⌜ now r ≡ fieldsOf kind (now (line .entry)) ⌝ }
+{
+    match kind {
+        GOES_ON => vectors::rest(line, 1),
+        ON_NETWORK => vectors::rest(line, 23),
+        _ => vectors::rest(line, 7),
+    }
+}
+
+fn record_before(line: &[u8], kind: u8, last: Guest) -> Guest {
+    match kind {
+        GOES_ON => last,
+        ON_NETWORK => known(vectors::rest(line, 17), network_at(line)),
+        _ => known(vectors::rest(line, 1), vectors::network()),
+    }
+}
+
+fn network_at(line: &[u8]) -> Network {
+    Network {
+        gateway: address_at(line, 1),
+        guest: address_at(line, 5),
+        mask: address_at(line, 9),
+        lease: u32be(line, 13),
+    }
+}
+
+// From id and xid on. It has the MAC of the record after the call, which stands behind them.
+fn known(fields: &[u8], network: Network) -> Guest {
+    Guest::of(
+        mac_at(fields, 6),
+        u16be(fields, 0),
+        u32be(fields, 2),
+        network,
+    )
 }
 
 fn judged(fields: &[u8], before: Guest) -> Outcome
@@ -78,14 +113,18 @@ fn judged(fields: &[u8], before: Guest) -> Outcome
 {
     let verdict = byte_at(fields, VERDICT_AT);
     let whose = byte_at(fields, WHOSE_AT);
-    if VERDICTS <= verdict || WHOSE <= whose {
-        return Outcome {
-            named: false,
-            agrees: false,
-            verdict: verdict,
-            whose: whose,
-            guest: before,
-        };
+    let unnamed = Outcome {
+        named: false,
+        agrees: false,
+        verdict: verdict,
+        whose: whose,
+        guest: before,
+    };
+    if VERDICTS <= verdict {
+        return unnamed;
+    }
+    if WHOSE <= whose {
+        return unnamed;
     }
     let checked = call(fields, before);
     let after = checked.guest;
@@ -126,20 +165,25 @@ fn call_with(fields: &[u8], before: Guest, frame: &[u8]) -> Checked {
     if out.len() < room {
         return unlike(before);
     }
+    let network = before.network;
     let answer = slirp::handle(before, frame, out);
     let verdict = answer.verdict;
     let after = answer.guest;
     Checked {
-        agrees: is_record(fields, after) & is_answer(fields, verdict, frame, out),
+        agrees: vectors::same_record(after, record_after(fields, network))
+            & is_answer(fields, verdict, frame, out),
         guest: after,
     }
 }
 
-fn is_record(fields: &[u8], after: Guest) -> bool {
-    let mac = after.mac;
-    check::same(&mac, vectors::part(fields, 0, 6))
-        & (after.id == u16be(fields, 6))
-        & (after.xid == u32be(fields, 8))
+// On the network of the record before: no call changes it.
+fn record_after(fields: &[u8], network: Network) -> Guest {
+    Guest::of(
+        mac_at(fields, 0),
+        u16be(fields, 6),
+        u32be(fields, 8),
+        network,
+    )
 }
 
 // Lays out the reply that the line expects.

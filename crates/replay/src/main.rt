@@ -1,5 +1,5 @@
-// Replays stored vectors: calls of `sums`, `frames`, `tcp`, `options`, `dhcp_reply` and `slirp` with the
-// answers that others gave, one to a line of standard input (oracle/README.md has the form). It prints
+// Replays stored vectors: calls of `sums`, `frames`, `tcp`, `options`, `dhcp_reply`, `slirp` and `making`
+// with the answers that others gave, one to a line of standard input (oracle/README.md has the form). It prints
 // how many of each kind ran and agreed.
 mod rows;
 
@@ -13,14 +13,14 @@ const STDIN: i32 = 0;
 const STDOUT: i32 = 1;
 
 // The largest input, with a byte to spare.
-const TEXT_ROOM: usize = 1179648;
+const TEXT_ROOM: usize = 1572864;
 
 fn main() {
     let mut space = vectors::large_space();
     let text = vectors::front(&mut space, TEXT_ROOM);
     let n = io::read_full(STDIN, text);
     if n == text.len() {
-        io::write_all(STDOUT, b"input over 1179647\n");
+        io::write_all(STDOUT, b"input over 1572863\n");
         return;
     }
     let mut line = io::buffer();
@@ -36,7 +36,7 @@ struct Run {
 fn replayed(text: &[u8], line: &mut [u8]) -> Tally {
     let mut run = Run {
         tally: Tally::new(),
-        guest: Guest::new([0, 0, 0, 0, 0, 0]),
+        guest: Guest::of([0, 0, 0, 0, 0, 0], 1, 0, vectors::network()),
     };
     let mut at = 0;
     while at < text.len() {
@@ -59,6 +59,9 @@ fn judged(run: Run, whole: bool, line: &[u8]) -> Run {
     if gateway_cases::is_call(byte_at(line, 0) % SPOILED) {
         return call_judged(run, line);
     }
+    if byte_at(line, 0) % SPOILED == gateway_cases::MAKING {
+        return making_judged(run, line);
+    }
     let case = builder_cases::judge(line);
     if case.kind == 0 {
         return counted(run, rows::UNREAD, false);
@@ -80,12 +83,35 @@ fn call_judged(run: Run, line: &[u8]) -> Run {
     let once = counted(run, row, outcome.agrees);
     let whose_row = rows::of_whose(outcome.named, outcome.whose);
     let twice = counted(once, whose_row, outcome.agrees);
-    let tally = twice.tally;
     let after = outcome.guest;
+    let network = after.network;
+    let elsewhere = !vectors::same_network(network, vectors::network());
+    let all = counted_elsewhere(twice, outcome.named & elsewhere, outcome.agrees);
+    let tally = all.tally;
     Run {
         tally: tally,
         guest: after,
     }
+}
+
+// A call on another network is counted once more.
+fn counted_elsewhere(run: Run, elsewhere: bool, agrees: bool) -> Run {
+    if elsewhere {
+        return counted(run, rows::ELSEWHERE, agrees);
+    }
+    run
+}
+
+fn making_judged(run: Run, line: &[u8]) -> Run {
+    let outcome = gateway_cases::made(line);
+    if SPOILED <= byte_at(line, 0) {
+        return counted(run, rows::SPOILED, !outcome.agrees);
+    }
+    counted(
+        run,
+        rows::of_making(outcome.named, outcome.made),
+        outcome.agrees,
+    )
 }
 
 fn counted(run: Run, row: usize, agrees: bool) -> Run {
