@@ -11,6 +11,9 @@ mod inputs;
 #[allow(dead_code)]
 #[path = "../oracle/mended.rs"]
 mod mended;
+#[allow(dead_code)]
+#[path = "../oracle/networks.rs"]
+mod networks;
 mod ours;
 mod reassembly;
 mod rounds;

@@ -5,6 +5,7 @@ use std::sync::atomic::{AtomicPtr, Ordering};
 use crate::cases::Call;
 use crate::lending::{Lender, Slot};
 use crate::library::*;
+use crate::making_02;
 
 /// The call that is being made, for where it faults.
 pub static NOW: AtomicPtr<Now> = AtomicPtr::new(std::ptr::null_mut());
@@ -149,41 +150,21 @@ pub struct Plan {
     pub lease: u32,
 }
 
-/// Document 02: a lease time that is not named is this one.
-const DEFAULT_LEASE: u32 = 86_400;
-
 impl Plan {
-    /// Document 02: the mask is that of a prefix of 8 to 30 bits, and the addresses are two of its network, neither its
-    /// lowest nor its highest.
-    fn is_good(&self) -> bool {
-        let number = |bytes| u64::from(u32::from_be_bytes(bytes));
-        let [gateway, guest, mask] = [self.gateway, self.guest, self.mask].map(number);
-        // How many addresses a network of this mask has.
-        let size = (1 << 32) - mask;
-        let inside = |address: u64| (1..size - 1).contains(&(address % size));
-        (8..=30).any(|prefix| size == 1 << (32 - prefix))
-            && gateway != guest
-            && gateway / size == guest / size
-            && inside(gateway)
-            && inside(guest)
-    }
-
-    fn record(&self) -> Guest {
-        let lease = match self.lease_named {
-            0 => DEFAULT_LEASE,
-            _ => self.lease,
-        };
-        Guest {
+    /// The record that document 02 has made of it, if any.
+    fn record(&self) -> Option<Guest> {
+        let network = making_02::made(making_02::Asked {
+            gateway: self.gateway,
+            guest: self.guest,
+            mask: self.mask,
+            lease: (self.lease_named != 0).then_some(self.lease),
+        })?;
+        Some(Guest {
             mac: self.mac,
             id: 1,
             xid: 0,
-            network: Network {
-                gateway: self.gateway,
-                guest: self.guest,
-                mask: self.mask,
-                lease,
-            },
-        }
+            network: Network::of_oracle(network),
+        })
     }
 }
 
@@ -220,10 +201,9 @@ pub fn make_guest(
         .all(|(slot, bytes)| lender.is_kept(*slot, bytes));
     asserted(kept, "an address or the mask was written")?;
     lender.take_back();
-    let expected = if plan.is_good() {
-        (MADE, plan.record())
-    } else {
-        (BAD_RECORD, before)
+    let expected = match plan.record() {
+        Some(made) => (MADE, made),
+        None => (BAD_RECORD, before),
     };
     asserted(
         (number, after) == expected,

@@ -5,12 +5,14 @@ use crate::captured::captured;
 use crate::cases::{Call, MOST_ROOM};
 use crate::compare_builders::Builder;
 use crate::dhcp_vectors::option_bytes;
+use crate::document_01::Record;
 use crate::draws::{Draws, GATEWAY_IP, GUEST_IP, GUEST_MAC};
 use crate::gateway_cases::USUAL_ROOM;
 use crate::gateway_sequences::messages;
 use crate::guest_frames::*;
 use crate::lines::ruled_bytes;
 use crate::mended::{dhcp_frame, with_lengths};
+use crate::networks::{HERE, Network};
 
 /// Calls behind these are not made.
 const MOST_CALLS: usize = 8;
@@ -23,8 +25,9 @@ const LIMITS: [usize; 8] = [
     1_514, 65_487, 65_495, 65_515, 65_527, 65_535, 65_549, 131_074,
 ];
 
-/// What the guest's record starts with but for its id: MAC and xid.
-const GUEST: usize = 10;
+/// What the guest's record starts with but for its id: MAC, xid, a byte that is odd where its network is not the Rust's, and
+/// that network.
+const GUEST: usize = 27;
 /// A builder's fields, all of them for each, or what a record is to be made of.
 const FIELDS: usize = 28;
 
@@ -196,9 +199,23 @@ impl Input {
         bytes
     }
 
-    pub fn mac_and_xid(&self) -> ([u8; 6], u32) {
-        let mut guest = &self.guest[..];
-        (array(&mut guest), u32::from_be_bytes(array(&mut guest)))
+    /// The guest's record, with this id.
+    pub fn record(&self, id: u16) -> Record {
+        let rest = &mut &self.guest[..];
+        let (mac, xid, [which]) = (array(rest), u32::from_be_bytes(array(rest)), array(rest));
+        let own = Network {
+            gateway: array(rest),
+            guest: array(rest),
+            mask: array(rest),
+            lease: u32::from_be_bytes(array(rest)),
+        };
+        let network = if which % 2 == 1 { own } else { HERE };
+        Record {
+            mac,
+            id,
+            xid,
+            network,
+        }
     }
 
     pub fn calls(&self) -> impl Iterator<Item = (Asked, usize)> {
@@ -264,7 +281,7 @@ impl Input {
 }
 
 /// Inputs to start from, with names: the frames that real software sent, each alone; and simple ones, which are a frame of
-/// each kind in a row, long pings, a call of each builder, and a record made.
+/// each kind in a row, on two networks, long pings, a call of each builder, and a record made.
 pub fn seeds() -> Vec<(String, Vec<u8>)> {
     let frame = |bytes: Vec<u8>| Item {
         bytes,
@@ -320,14 +337,33 @@ pub fn seeds() -> Vec<(String, Vec<u8>)> {
         .chain(builders)
         .chain([record])
         .map(|item| vec![item]);
-    let simple = [in_a_row].into_iter().chain(alone);
-    let named = |kind: &'static str, number: usize, items: Vec<Item>| {
-        let guest = [0x52, 0x54, 0x00, 0x12, 0x34, 0x56, 0x39, 0x03, 0xf3, 0x26];
-        let input = Input { guest, items };
+    let simple: Vec<_> = [in_a_row].into_iter().chain(alone).collect();
+    // The Rust's network, or one with its gateway and nothing else of it.
+    let of_the_rust = [0; 17];
+    let another = [
+        &[1][..],
+        &GATEWAY_IP,
+        &[10, 0, 200, 9],
+        &[255, 255, 0, 0],
+        &[0, 0, 7, 8],
+    ]
+    .concat();
+    let named = |kind: &'static str, number: usize, own: &[u8], items: Vec<Item>| {
+        let start = [&GUEST_MAC[..], &[0x39, 0x03, 0xf3, 0x26]].concat();
+        let guest = [start, own.to_vec()].concat();
+        let input = Input {
+            guest: array(&mut &guest[..]),
+            items,
+        };
         (format!("{kind}-{number:03}"), input.bytes())
     };
-    let sent = sent.enumerate().map(|(at, items)| named("sent", at, items));
-    let simple = simple.enumerate();
-    sent.chain(simple.map(|(at, items)| named("simple", at, items)))
-        .collect()
+    let sent = sent
+        .enumerate()
+        .map(|(at, items)| named("sent", at, &of_the_rust, items));
+    let elsewhere = named("simple", simple.len(), &another, simple[0].clone());
+    let simple = simple
+        .into_iter()
+        .enumerate()
+        .map(|(at, items)| named("simple", at, &of_the_rust, items));
+    sent.chain(simple).chain([elsewhere]).collect()
 }

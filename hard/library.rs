@@ -1,5 +1,7 @@
 //! include/yavoledu.h for Rust. The library is a table of functions, so that another can take its place.
 
+use crate::networks;
+
 /// A guest's network.
 #[repr(C)]
 #[derive(Clone, Copy, Debug, PartialEq)]
@@ -8,6 +10,24 @@ pub struct Network {
     pub guest: [u8; 4],
     pub mask: [u8; 4],
     pub lease: u32,
+}
+
+impl Network {
+    /// As `oracle/` has it.
+    pub const fn of_oracle(network: networks::Network) -> Network {
+        let networks::Network {
+            gateway,
+            guest,
+            mask,
+            lease,
+        } = network;
+        Network {
+            gateway,
+            guest,
+            mask,
+            lease,
+        }
+    }
 }
 
 /// The record that the host keeps for each guest.
@@ -21,12 +41,7 @@ pub struct Guest {
 }
 
 /// The network of the published Rust and of document 01.
-pub const DOCUMENT_01: Network = Network {
-    gateway: [10, 0, 2, 2],
-    guest: [10, 0, 2, 15],
-    mask: [255, 255, 255, 0],
-    lease: 86_400,
-};
+pub const DOCUMENT_01: Network = Network::of_oracle(networks::HERE);
 
 pub const DROP: u32 = 0;
 pub const REPLY: u32 = 1;
