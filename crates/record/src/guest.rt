@@ -32,28 +32,18 @@ impl Guest {
     pub fn spend(self) -> Guest
         ensures { λ r. ⌜ r ≡ spent self ⌝ }
     {
-        let mac = self.mac;
-        let network = self.network;
-        Guest {
-            mac,
-            id: std::num::wrapping_add_u16(self.id, 1),
-            xid: self.xid,
-            network,
-        }
+        let mut next = self;
+        next.id = std::num::wrapping_add_u16(self.id, 1);
+        next
     }
 
     // It has a message with this xid.
     pub fn note(self, xid: u32) -> Guest
         ensures { λ r. ⌜ r ≡ noting xid self ⌝ }
     {
-        let mac = self.mac;
-        let network = self.network;
-        Guest {
-            mac,
-            id: self.id,
-            xid,
-            network,
-        }
+        let mut noted = self;
+        noted.xid = xid;
+        noted
     }
 
     // The answer that leaves this record.

@@ -7,7 +7,7 @@ use Rattle.record.proofs.guest.Guest.spend.Statement.{statement}
 use Rattle.record.proofs.guest.Guest.spend.Tie as tie
 
 returns : tie.Need-returns
-returns c = ap (λ (id : ℕ). withId id (c .before .before .before .args .self)) (c .wrapping-add-u16 .ensures)
+returns c = ap (λ (id : ℕ). withId id (c .before .args .self)) (c .wrapping-add-u16 .ensures)
 
 pub spend-spec : {M : Type 1} → statement M
 spend-spec = tie.close (tie.spec (λ c κs. search needs) returns)
