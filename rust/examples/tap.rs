@@ -5,7 +5,8 @@
 //! It attaches to the TAP device NAME, and creates one where there is none. Each frame sent into the
 //! device goes to the gateway, with the record of the MAC that it came from; a reply is written back.
 //! The network has these addresses of gateway and guest, this mask (255.255.255.0, or the number of its
-//! ones, 24) and this lease time, in seconds; without them it is document 01's.
+//! ones, 24), and this lease time in seconds, or the library's default. Behind NAME alone it is document
+//! 01's.
 //! What the gateway hands to its host (DNS, relay, TCP) is printed, a line each, and served by nobody;
 //! so are refusals. Nothing but the device is opened. SIGTERM and SIGINT end it, with a tally.
 //!

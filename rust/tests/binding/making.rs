@@ -21,7 +21,7 @@ unsafe extern "C" {
 const MADE: u32 = 24;
 const BAD_RECORD: u32 = 9;
 /// "if that names no lease time, it is 86,400 seconds"
-const DEFAULT_LEASE: u32 = 86_400;
+pub const DEFAULT_LEASE: u32 = 86_400;
 
 const MAC: [u8; 6] = [0xa1, 0xa2, 0xa3, 0xa4, 0xa5, 0xa6];
 
@@ -230,7 +230,7 @@ fn every_contiguous_mask_with_one_bit_flipped() {
 }
 
 /// A number from a generator that is the same in every run.
-fn draw(seed: &mut u64) -> u32 {
+pub fn draw(seed: &mut u64) -> u32 {
     *seed = seed.wrapping_mul(6_364_136_223_846_793_005).wrapping_add(1);
     (*seed >> 32) as u32
 }

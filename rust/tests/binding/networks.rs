@@ -4,6 +4,7 @@
 use yavoledu::{Guest, Network, NetworkPlan, Verdict};
 
 use crate::frames::*;
+use crate::making::{DEFAULT_LEASE, draw};
 use crate::replies::reply_to;
 
 /// Networks of many prefixes, document 01's among them.
@@ -181,7 +182,7 @@ fn a_dhcp_reply_goes_to_the_guests_address_with_every_host_bit_set() {
 #[test]
 fn a_dhcp_reply_tells_the_lease_time_of_the_record() {
     for (lease, seconds) in [
-        (None, 86_400_u32),
+        (None, DEFAULT_LEASE),
         (Some(0), 0),
         (Some(1), 1),
         (Some(86_400), 86_400),
@@ -195,12 +196,6 @@ fn a_dhcp_reply_tells_the_lease_time_of_the_record() {
         let reply = reply_to(&mut guest, &discover());
         assert_eq!(reply[OPTION_51[0]..OPTION_51[1]], seconds.to_be_bytes());
     }
-}
-
-/// A number from a generator that is the same in every run.
-fn draw(seed: &mut u64) -> u32 {
-    *seed = seed.wrapping_mul(6_364_136_223_846_793_005).wrapping_add(1);
-    (*seed >> 32) as u32
 }
 
 /// Records that no call has made: any addresses, any mask.
