@@ -12,7 +12,7 @@ use crate::networks::Network;
 const MADE: u32 = 24;
 const BAD_RECORD: u32 = 9;
 
-/// What stands beside a refusal.
+/// What stands beside a refusal, where no record was lent.
 const NOBODY: Record = Record {
     mac: [0; 6],
     id: 0,
@@ -57,7 +57,7 @@ pub fn run(seed: u64) -> bool {
     let (made, refused) = (grouped(makings.made), grouped(makings.refused));
     match &outcome {
         Ok(every) => println!(
-            "records: {made} made and {refused} refused, {} of them the products of small choices; 0 differences",
+            "records, seed {seed:#x}: {made} made and {refused} refused, {} of them the products of small choices; 0 differences",
             grouped(*every)
         ),
         Err(difference) => {
@@ -66,6 +66,26 @@ pub fn run(seed: u64) -> bool {
         }
     }
     outcome.is_ok() && makings.made > 0 && makings.refused > 0
+}
+
+fn asked(gateway: u32, guest: u32, mask: u32, lease: Option<u32>) -> Asked {
+    let [gateway, guest, mask] = [gateway, guest, mask].map(u32::to_be_bytes);
+    Asked {
+        gateway,
+        guest,
+        mask,
+        lease,
+    }
+}
+
+fn fresh(mac: [u8; 6], network: Network) -> Record {
+    let (id, xid) = (1, 0);
+    Record {
+        mac,
+        id,
+        xid,
+        network,
+    }
 }
 
 fn contiguous(ones: u32) -> u32 {
@@ -108,7 +128,7 @@ impl Makings {
         for gateway in addresses {
             for guest in addresses {
                 for lease in LEASES {
-                    self.compare(gateway, guest, mask, lease)?;
+                    self.compare(asked(gateway, guest, mask, lease))?;
                 }
             }
         }
@@ -129,58 +149,60 @@ impl Makings {
             let gateway = self.draws.one_of(&[near, shared, shared, far]);
             let seconds = self.draws.word();
             let lease = self.draws.one_of(&[None, Some(seconds)]);
-            self.compare(gateway, guest, mask, lease)?;
+            self.compare(asked(gateway, guest, mask, lease))?;
         }
         Ok(())
     }
 
-    fn compare(
-        &mut self,
-        gateway: u32,
-        guest: u32,
-        mask: u32,
-        lease: Option<u32>,
-    ) -> Result<(), String> {
-        let [gateway, guest, mask] = [gateway, guest, mask].map(u32::to_be_bytes);
-        let asked = Asked {
-            gateway,
-            guest,
-            mask,
-            lease,
-        };
+    /// What may stand in memory that is lent.
+    fn any_record(&mut self) -> Record {
+        let [gateway, guest, mask] = [(); 3].map(|()| self.draws.ip());
+        Record {
+            mac: self.draws.mac(),
+            id: self.draws.port(),
+            xid: self.draws.word(),
+            network: Network {
+                gateway,
+                guest,
+                mask,
+                lease: self.draws.word(),
+            },
+        }
+    }
+
+    /// With no record lent, and over one that is.
+    fn compare(&mut self, asked: Asked) -> Result<(), String> {
         let mac = self.draws.mac();
-        let expected = match making_02::made(asked) {
-            Some(network) => {
-                let (id, xid) = (1, 0);
-                (
-                    MADE,
-                    Record {
-                        mac,
-                        id,
-                        xid,
-                        network,
-                    },
-                )
-            }
-            None => (BAD_RECORD, NOBODY),
+        let expected = |old| match making_02::made(asked) {
+            Some(network) => (MADE, fresh(mac, network)),
+            None => (BAD_RECORD, old),
         };
         // Any number but 0 names a lease time, and without one what stands in its place counts for nothing.
         let (other, any) = (self.draws.word(), self.draws.word());
-        let named = lease.map_or(0, |_| any.max(1));
+        let named = asked.lease.map_or(0, |_| any.max(1));
         let lent = Network {
-            gateway,
-            guest,
-            mask,
-            lease: lease.unwrap_or(other),
+            gateway: asked.gateway,
+            guest: asked.guest,
+            mask: asked.mask,
+            lease: asked.lease.unwrap_or(other),
         };
-        let ours = compare_ours::make(mac, lent, named);
-        if ours != expected {
-            return Err(format!(
-                "The record made differs: {asked:?}, mac {mac:?}\nexpected: {expected:?}\nours:     {ours:?}"
-            ));
+        let old = self.any_record();
+        let answers = [
+            (expected(NOBODY), compare_ours::make(mac, lent, named)),
+            (
+                expected(old),
+                compare_ours::make_over(old, mac, lent, named),
+            ),
+        ];
+        for (expected, ours) in answers {
+            if ours != expected {
+                return Err(format!(
+                    "The record made differs: {asked:?}, mac {mac:?}, over {old:?}\nexpected: {expected:?}\nours:     {ours:?}"
+                ));
+            }
         }
-        match expected.0 {
-            MADE => self.made += 1,
+        match answers[0].0 {
+            (MADE, _) => self.made += 1,
             _ => self.refused += 1,
         }
         Ok(())

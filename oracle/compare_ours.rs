@@ -86,6 +86,16 @@ unsafe extern "C" {
         network: *mut u32,
         lease_named: u32,
     ) -> u32;
+
+    fn compared_make_over(
+        mac: *mut u8,
+        id: *mut u16,
+        xid: *mut u32,
+        network: *mut u32,
+        new_mac: *const u8,
+        asked: *const u32,
+        lease_named: u32,
+    ) -> u32;
 }
 
 /// What a call of ours answers, beside what it wrote.
@@ -241,19 +251,39 @@ pub fn checksum(input: &[u8]) -> u16 {
     unsafe { compared_checksum(input.as_ptr(), input.len()) }
 }
 
-/// What a record is made with: its MAC, its addresses and mask, and a number that names the lease time
-/// where `is_named` is not 0.
-pub fn make(mac: [u8; 6], network: Network, is_named: u32) -> (u32, Record) {
-    let (mut mac, mut id, mut xid) = (mac, !0, !0);
-    let mut numbers = four_numbers(network);
-    let network = numbers.as_mut_ptr();
-    let number = unsafe { compared_make(mac.as_mut_ptr(), &mut id, &mut xid, network, is_named) };
-    let record = Record {
+/// A record made with this MAC and network, and the number told. The network's lease time is named where
+/// `lease_named` is not 0.
+pub fn make(mac: [u8; 6], network: Network, lease_named: u32) -> (u32, Record) {
+    let (id, xid) = (!0, !0);
+    let mut record = Record {
         mac,
         id,
         xid,
-        network: network_of(numbers),
+        network,
     };
+    let mut lent = four_numbers(network);
+    let (mac, at) = (record.mac.as_mut_ptr(), lent.as_mut_ptr());
+    let number = unsafe { compared_make(mac, &mut record.id, &mut record.xid, at, lease_named) };
+    record.network = network_of(lent);
+    (number, record)
+}
+
+/// The same over an old record.
+pub fn make_over(old: Record, mac: [u8; 6], network: Network, lease_named: u32) -> (u32, Record) {
+    let mut record = old;
+    let mut lent = four_numbers(old.network);
+    let number = unsafe {
+        compared_make_over(
+            record.mac.as_mut_ptr(),
+            &mut record.id,
+            &mut record.xid,
+            lent.as_mut_ptr(),
+            mac.as_ptr(),
+            four_numbers(network).as_ptr(),
+            lease_named,
+        )
+    };
+    record.network = network_of(lent);
     (number, record)
 }
 

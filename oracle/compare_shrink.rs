@@ -135,7 +135,7 @@ pub fn report(sides: &mut Sides, input: Input, difference: Difference) -> String
     text += &call_text(&best, Some(difference.id));
     text += &format!("(shrunk from {first_len} bytes)\n");
     if NUMBER != 0 {
-        text += &format!("(gwone is on document 01's network, and this is {HERE:?})\n");
+        text += &format!("(on {HERE:?})\n");
     } else if best.builder.is_none() && !shows_with_gwone {
         text += &format!(
             "(gwone has mac {}, id 1, xid 0, a room of {USUAL_ROOM} and reads at most {MOST_READ} bytes: with these it does not show)\n",
@@ -145,7 +145,8 @@ pub fn report(sides: &mut Sides, input: Input, difference: Difference) -> String
     text
 }
 
-/// The call: a builder's with its payload, or the line for the shell that hands the frame to `gwone`.
+/// The call: a builder's with its payload, or the line for the shell that hands the frame to `gwone`;
+/// on another network than `gwone`'s that line only prints the frame.
 pub fn call_text(input: &Input, id: Option<u16>) -> String {
     let id = id.map_or(String::new(), |id| format!(" id {id},"));
     let mut text = format!(
@@ -157,7 +158,8 @@ pub fn call_text(input: &Input, id: Option<u16>) -> String {
     );
     let (builder, bytes) = (&input.builder, &input.bytes[..]);
     let Some(builder) = builder else {
-        return text + &format!("{} | ./gwone\n", printed(bytes));
+        let to_gwone = if NUMBER == 0 { " | ./gwone" } else { "" };
+        return text + &format!("{}{to_gwone}\n", printed(bytes));
     };
     text += &format!("call: {builder:?}\n");
     text + &match bytes {

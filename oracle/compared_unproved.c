@@ -14,6 +14,7 @@ unsigned dhcp_reply_within(const void *, unsigned, const void *, unsigned char, 
 unsigned message_type_within(Slice *, void *) WITHIN("compared_message_type");
 unsigned short checksum_within(Slice *) WITHIN("compared_checksum");
 unsigned make_within(void *, void *, void *, void *, unsigned) WITHIN("compared_make");
+unsigned make_over_within(void *, void *, void *, void *, const void *, const void *, unsigned) WITHIN("compared_make_over");
 
 unsigned compared_handle(void *mac, void *id, void *xid, void *network, const void *frame, unsigned long frame_len, void *reply, unsigned long room,
                          void *values) {
@@ -57,4 +58,8 @@ unsigned short compared_checksum(const void *input, unsigned long len) {
 
 unsigned compared_make(void *mac, void *id, void *xid, void *network, unsigned lease_named) {
     return make_within(mac, id, xid, network, lease_named);
+}
+
+unsigned compared_make_over(void *mac, void *id, void *xid, void *network, const void *new_mac, const void *asked, unsigned lease_named) {
+    return make_over_within(mac, id, xid, network, new_mac, asked, lease_named);
 }

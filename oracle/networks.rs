@@ -56,8 +56,8 @@ pub const NUMBER: usize = match option_env!("NETWORK") {
 pub const HERE: Network = NETWORKS[NUMBER].network;
 pub const BROADCAST: [u8; 4] = NETWORKS[NUMBER].broadcast;
 
-/// An address that is nobody's here: on every other network but the one where it is the guest's it is
-/// the gateway's of document 01.
+/// On other networks document 01's gateway, which is nobody's there but for network 4, where it is the
+/// guest's; on document 01's an address that is nobody's.
 pub const STRANGER: [u8; 4] = match NUMBER {
     0 => [10, 0, 2, 3],
     _ => NETWORKS[0].network.gateway,

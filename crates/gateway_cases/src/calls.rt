@@ -12,8 +12,8 @@ use wire::bytes::mac_at;
 use wire::bytes::u16be;
 use wire::bytes::u32be;
 
-// A call on document 01's network with id and xid before it, one that goes on with the record that the last one left, and
-// one with its network before id and xid.
+// A call on document 01's network with id and xid before it, one that goes on with the record that the
+// last one left, and one with its network before id and xid.
 const WITH_RECORD: u8 = 13;
 
 const GOES_ON: u8 = 14;

@@ -1,4 +1,7 @@
 // One record to be made: what the call is asked, and whether answer and record come out as a line says.
+ghost use mathlib.Core.Path.{_≡_};
+ghost use lib.Dec.{eqb};
+ghost use lib.ListN.{getD};
 use making::Answer;
 use making::Lease;
 use record::Guest;
@@ -41,7 +44,9 @@ pub struct MakingOutcome {
     pub made: bool,
 }
 
-pub fn made(line: &[u8]) -> MakingOutcome {
+pub fn made(line: &[u8]) -> MakingOutcome
+    ensures { λ r. ⌜ r .made ≡ eqb (getD (now (line .entry)) 24 0) 24 ⌝ }
+{
     let answer = byte_at(line, ANSWER_AT);
     let made = answer == MADE;
     if (line.len() != LINE_LENGTH) | (!made & (answer != BAD_RECORD)) {
