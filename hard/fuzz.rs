@@ -13,6 +13,7 @@ mod calls;
 mod fuzz_input;
 #[allow(dead_code)]
 mod lending;
+#[allow(dead_code)]
 mod library;
 
 use std::process::abort;
