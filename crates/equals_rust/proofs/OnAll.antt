@@ -7,7 +7,6 @@ use mathlib.Core.List.{List}
 use native.Mathlib.Omega.{arith}
 use borrow.Author.Tests.{le-ltb, eq-eqb, ne-eqb}
 use lib.ListN.{length}
-use Rattle.wire.specs.Rfc768.{sourcePort, targetPort, lengthField}
 use Rattle.wire.specs.Rfc791.{protocolOf, targetOf}
 use Rattle.wire.specs.Rfc894.{body, typeOf}
 use Rattle.wire.specs.Rfc2131.{operation, magicCookie}
@@ -16,7 +15,7 @@ use Rattle.published.specs.Rust.{panics, cuts, whole}
 use Rattle.published.specs.Backend.{SlirpBackend}
 use Rattle.published.specs.Slirp.{«handle_icmp», «handle_ip», send}
 use Rattle.published.specs.Udp.{«handle_udp»}
-use Rattle.rules.specs.Rules.{payloadAt, payload, datagramData, decision, ipDecision, udpDecision, dhcpDecision}
+use Rattle.rules.specs.Rules.{payloadAt, datagramData, decision, dhcpDecision}
 use Rattle.rules.specs.Same.{same}
 use Rattle.rules.specs.Seen.{Carries, CutMessage, TooLongPing}
 use Rattle.rules.specs.declared.decision.Decision.the-variants.{CutType}

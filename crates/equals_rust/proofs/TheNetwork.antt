@@ -1,7 +1,5 @@
 -- The network that the comparison is on has the constants of the Rust's text, and it is document 01's, by computation.
 use mathlib.Core.Path.{_≡_, refl}
-use mathlib.Core.List.{List}
-use Prim.Native.Nat.{ℕ}
 use Rattle.record.specs.Network.{broadcastOf, document01, FourBytes}
 use Rattle.published.specs.Frames.{«GW_IP», «GUEST_IP», SUBNET, «BCAST_IP»}
 use Rattle.equals_rust.specs.Network.{rustNetwork}

@@ -5,7 +5,6 @@ use mathlib.Core.List.{List, [], _∷_}
 use lib.ListN.{length}
 use Rattle.base.specs.Runs.{Runs}
 use Rattle.record.specs.Answer.{Meets}
-use Rattle.equals_rust.specs.Network.{rustNetwork}
 use Rattle.record.specs.declared.answer.Answer.{Answer}
 use Rattle.record.specs.declared.guest.Guest.{Guest}
 use Rattle.published.specs.Rust.{gives, whole}

@@ -1,7 +1,7 @@
 // The three builders and the checksum, for C. A frame takes of the record the id alone, which is lent.
 ghost use lib.ListN.{length};
 ghost use mathlib.Core.Path.{_≡_};
-ghost use mathlib.Core.List.{[], _∷_};
+ghost use mathlib.Core.List.{_∷_};
 ghost use Rattle.frames.specs.Builders.{makeIpFrame, makeUdpPayload};
 ghost use Rattle.record.specs.Answer.{paper};
 ghost use Rattle.host.specs.Exported.{Built, Told};

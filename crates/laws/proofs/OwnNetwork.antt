@@ -1,23 +1,22 @@
 -- No constant is left behind: the replies of two records that differ in their networks alone differ at the places of these and nowhere else, and at each place stands the record's own
 -- value. By computation, once the addresses are written out byte by byte; outside the places the two are the same list with the places blanked out.
 use Prim.Native.Nat.{ℕ, zero, suc, _+_, _≤_}
-use mathlib.Core.Bool.{Bool, true, false, cond}
+use mathlib.Core.Bool.{Bool, false, cond}
 use mathlib.Core.Path.{_≡_, refl, ap, ap₂, sym, subst, _∙_}
-use mathlib.Core.List.{List, [], _∷_, _++_}
+use mathlib.Core.List.{List, [], _∷_}
 use native.Mathlib.Nat.{add-zero, zero-add}
 use native.Mathlib.Omega.{arith}
-use lib.ListN.{length, getD, drop}
+use lib.ListN.{length, getD}
 use Rattle.base.proofs.Lists.{all-bytes}
 use Rattle.base.specs.Bytes.{be16, bytesAt}
 use Rattle.record.specs.Guest.{Sized}
-use Rattle.record.specs.Network.{FourBytes, broadcastOf}
+use Rattle.record.specs.Network.{FourBytes}
 use Rattle.record.specs.declared.guest.Guest.{Guest}
 use Rattle.record.specs.declared.network.Network.{Network}
 use Rattle.arp_reply.specs.Reply.{arpReply, replyTo}
 use Rattle.dhcp_message.specs.Message.{reply}
 use Rattle.dhcp_reply.specs.Reply.{dhcpFrame, dhcpFrameTo}
 use Rattle.echo_reply.proofs.Echo.{length-echo}
-use Rattle.echo_reply.specs.Reply.{echoFrame}
 use Rattle.frames.specs.Frames.{ipFrame}
 use Rattle.sums.specs.Rfc1071.{checksum}
 use Rattle.wire.specs.Rfc768.{datagram}
@@ -25,12 +24,12 @@ use Rattle.wire.specs.Rfc791.{header, headerWith, sourceOf}
 use Rattle.wire.specs.Rfc792.{echo}
 use Rattle.wire.specs.Rfc826 as Arp
 use Rattle.wire.specs.Rfc894.{body, sourceMac}
-use Rattle.rules.specs.Rules.{decision, payload, payloadAt}
+use Rattle.rules.specs.Rules.{decision, payload}
 use Rattle.rules.specs.Seen.{EchoAsked}
-use Rattle.rules.specs.declared.decision.Decision.the-variants.{ArpReply, EchoReply, DhcpReply}
+use Rattle.rules.specs.declared.decision.Decision.the-variants.{ArpReply, DhcpReply}
 use Rattle.rules.proofs.Says.{Says, says, dhcp-decided, echo-answered}
-use Rattle.laws.specs.Table.{built, replyAtAmpleRoom}
-use Rattle.laws.specs.OwnNetwork.{Place, at, within, Stand, DifferAt, arpPlaces, echoPlaces, dhcpPlaces, onNetwork, SameRequest, SamePing}
+use Rattle.laws.specs.Table.{replyAtAmpleRoom}
+use Rattle.laws.specs.OwnNetwork.{Place, at, within, DifferAt, arpPlaces, echoPlaces, dhcpPlaces, onNetwork, SameRequest, SamePing}
 
 -- a frame, from its byte `k` on, with 0 at the places
 blanked : List Place → (k : ℕ) (frame : List ℕ) → List ℕ

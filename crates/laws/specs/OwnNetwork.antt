@@ -1,7 +1,7 @@
 -- What of a reply is the network's (document 02, 1/13: "Every rule of 01 that names an address, the mask or the 86,400 of option 51 then reads it from the record"): the places in a
 -- frame, and what stands there.
 use Prim.Native.Nat.{ℕ, _+_}
-use mathlib.Core.Bool.{Bool, true, false, _&&_, _||_}
+use mathlib.Core.Bool.{Bool, false, _&&_, _||_}
 use mathlib.Core.Path.{_≡_}
 use mathlib.Core.List.{List, [], _∷_}
 use lib.Dec.{leb, ltb}

@@ -4,7 +4,7 @@ use mathlib.Core.Path.{_≡_, refl, sym}
 use mathlib.Core.List.{List}
 use Rattle.record.specs.Guest.{fresh}
 use Rattle.record.specs.declared.guest.Guest.{Guest}
-use Rattle.making.specs.Making.{GoodNetwork, Makes, made, refused, networkOf}
+use Rattle.making.specs.Making.{GoodNetwork, Makes, networkOf}
 use Rattle.making.specs.Over.{MadeOver, made as made-over, refused as refused-over}
 use Rattle.making.specs.declared.answer.Answer.the-variants.{Made, BadRecord}
 use Rattle.making.specs.declared.answer.Lease.{Lease}

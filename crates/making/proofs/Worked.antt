@@ -1,7 +1,7 @@
 -- Worked cases: document 01's network is good; 255.0.255.0 is no mask, and prefixes of 7 and 31 are none.
 use Prim.Native.Nat.{ℕ, _-_, _^_}
 use mathlib.Core.Path.{_≡_, refl, sym, ap, _∙_}
-use mathlib.Core.List.{List, [], _∷_}
+use mathlib.Core.List.{[], _∷_}
 use native.Mathlib.Omega.{arith}
 use borrow.Author.Tests.{eqb-false}
 use lib.Count.{leadingZeros}

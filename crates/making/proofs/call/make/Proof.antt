@@ -1,5 +1,4 @@
 -- `make` meets its contract: what `is_good` tells of the three numbers is told of the three addresses.
-use mathlib.Core.Path.{_≡_, ap, _∙_}
 use borrow.Author.Needs.{needs}
 use Rattle.base.proofs.Telling.{tells-not, tells-yes}
 use Rattle.making.specs.Making.{made, refused}

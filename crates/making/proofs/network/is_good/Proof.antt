@@ -1,6 +1,6 @@
 -- `is_good` meets its contract: each test that fails is a fact that a good network has, and all of them are what it has.
 use native.Mathlib.Omega.{arith}
-use Prim.Native.Nat.{ℕ, _-_, _^_, _≤_}
+use Prim.Native.Nat.{_-_, _^_, _≤_}
 use mathlib.Core.Path.{_≡_, sym, _∙_}
 use borrow.Author.Needs.{needs}
 use lib.Count.{ones}
