@@ -5,9 +5,10 @@ use std::hint::black_box;
 use published::handed::{self, To};
 use published::{NetworkBackend, SlirpBackend};
 
-use crate::draws::{GATEWAY_IP, GUEST_IP, GUEST_MAC};
+use crate::draws::{GUEST_IP, GUEST_MAC};
 use crate::guest_frames::{ELSEWHERE, dns_query};
 use crate::inputs;
+use crate::networks::{BROADCAST, HERE};
 use crate::ours::{self, Guest, Network};
 use crate::the_rust::IdCounter;
 
@@ -41,10 +42,10 @@ pub const ROOM: usize = 65_549;
 
 /// The network that the Rust knows, document 01's.
 pub const NETWORK: Network = Network {
-    gateway: GATEWAY_IP,
-    guest: GUEST_IP,
-    mask: [255, 255, 255, 0],
-    lease: 86_400,
+    gateway: HERE.gateway,
+    guest: HERE.guest,
+    mask: HERE.mask,
+    lease: HERE.lease,
 };
 
 /// The rows of the gateway, the builders, the checksum, and of the reader and of making a record, which have no Rust beside
@@ -291,7 +292,7 @@ fn returns_at_once(frame: &[u8]) -> u32 {
 
 /// The guest's address is the highest of its network: of all tests the last one refuses it.
 pub const HIGHEST_GUEST: Network = Network {
-    guest: [10, 0, 2, 255],
+    guest: BROADCAST,
     ..NETWORK
 };
 
