@@ -10,6 +10,10 @@ pub const TOO_LONG: u32 = 6;
 pub const CUT_TYPE: u32 = 7;
 pub const OUTSIDE: u32 = 8;
 
+/// What the call that makes a record answers.
+pub const BAD_RECORD: u32 = 9;
+pub const MADE: u32 = 24;
+
 /// Kinds that the reader tells.
 pub const KIND_ARP: u32 = 1;
 pub const KIND_ICMP: u32 = 2;
@@ -38,13 +42,33 @@ pub struct State {
 
 #[derive(Clone, Copy, Debug, PartialEq)]
 #[repr(C)]
+pub struct Network {
+    pub gateway: [u8; 4],
+    pub guest: [u8; 4],
+    pub mask: [u8; 4],
+    pub lease: u32,
+}
+
+#[derive(Clone, Copy, Debug, PartialEq)]
+#[repr(C)]
 pub struct Guest {
     pub mac: [u8; 6],
     pub id: u16,
     pub xid: u32,
+    pub network: Network,
 }
 
 unsafe extern "C" {
+    pub fn yavoledu_make_guest(
+        guest: *mut Guest,
+        mac: *const [u8; 6],
+        gateway: *const [u8; 4],
+        guest_ip: *const [u8; 4],
+        mask: *const [u8; 4],
+        lease_named: u32,
+        lease: u32,
+    ) -> u32;
+
     pub fn yavoledu_send(
         guest: *mut Guest,
         frame: *const u8,

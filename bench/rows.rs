@@ -8,7 +8,8 @@ use published::{NetworkBackend, SlirpBackend};
 use crate::draws::{GUEST_IP, GUEST_MAC};
 use crate::guest_frames::{ELSEWHERE, dns_query};
 use crate::inputs;
-use crate::ours::{self, Guest};
+use crate::networks::{BROADCAST, HERE};
+use crate::ours::{self, Guest, Network};
 use crate::the_rust::IdCounter;
 
 /// Makes so many calls, one behind the other.
@@ -39,7 +40,16 @@ enum Queue {
 /// Room for the longest frame.
 pub const ROOM: usize = 65_549;
 
-/// The rows of the gateway, the builders, the checksum and the reader, which has no Rust beside it.
+/// The network that the Rust knows, document 01's.
+pub const NETWORK: Network = Network {
+    gateway: HERE.gateway,
+    guest: HERE.guest,
+    mask: HERE.mask,
+    lease: HERE.lease,
+};
+
+/// The rows of the gateway, the builders, the checksum, and of the reader and of making a record, which have no Rust beside
+/// them.
 pub fn all() -> Vec<Row> {
     let replied = |name, goal, frame| gateway(name, goal, frame, ours::REPLY, Queue::LookedInto);
     let handed_on =
@@ -92,6 +102,12 @@ pub fn all() -> Vec<Row> {
             inputs::most_items(),
             ours::KIND_DHCP,
         ),
+        making("`make_guest`, made", NETWORK, ours::MADE),
+        making(
+            "`make_guest`, refused by the last test",
+            HIGHEST_GUEST,
+            ours::BAD_RECORD,
+        ),
         empty_call("a call that does nothing", inputs::ipv6()),
     ]
 }
@@ -128,9 +144,13 @@ fn gateway(name: &'static str, goal: Goal, frame: Vec<u8>, verdict: u32, queue: 
     }
 }
 
-fn new_guest(id: u16) -> Guest {
-    let (mac, xid) = (GUEST_MAC, 0);
-    Guest { mac, id, xid }
+pub fn new_guest(id: u16) -> Guest {
+    Guest {
+        mac: GUEST_MAC,
+        id,
+        xid: 0,
+        network: NETWORK,
+    }
 }
 
 #[inline(always)]
@@ -268,6 +288,60 @@ fn returns_at_once(frame: &[u8]) -> u32 {
     // So that the call is not taken for one that can be left out.
     black_box(());
     frame.len() as u32
+}
+
+/// The guest's address is the highest of its network: of all tests the last one refuses it.
+pub const HIGHEST_GUEST: Network = Network {
+    guest: BROADCAST,
+    ..NETWORK
+};
+
+/// What the memory holds that a record is made in.
+pub const STOOD_THERE: Guest = Guest {
+    mac: [0x11; 6],
+    id: 0x2222,
+    xid: 0x3333_3333,
+    network: Network {
+        gateway: [0x44; 4],
+        guest: [0x55; 4],
+        mask: [0x66; 4],
+        lease: 0x7777_7777,
+    },
+};
+
+#[inline(always)]
+pub fn make_guest(guest: &mut Guest, network: &Network) -> u32 {
+    let Network {
+        gateway,
+        guest: guest_ip,
+        mask,
+        lease,
+    } = network;
+    unsafe { ours::yavoledu_make_guest(guest, &GUEST_MAC, gateway, guest_ip, mask, 1, *lease) }
+}
+
+fn making(name: &'static str, network: Network, answer: u32) -> Row {
+    let mut guest = STOOD_THERE;
+    assert_eq!(make_guest(&mut guest, &network), answer, "{name}");
+    let made = Guest {
+        network,
+        ..new_guest(1)
+    };
+    let expected = if answer == ours::MADE {
+        made
+    } else {
+        STOOD_THERE
+    };
+    assert_eq!(guest, expected, "{name}");
+    let ours = calls(move || {
+        black_box(make_guest(&mut guest, black_box(&network)));
+    });
+    Row {
+        name,
+        beside: None,
+        goal: None,
+        ours,
+    }
 }
 
 fn reading(name: &'static str, frame: Vec<u8>, kind: u32) -> Row {

@@ -9,9 +9,9 @@ use std::ptr::null_mut;
 use crate::draws::{BROADCAST_IP, GATEWAY_IP, GUEST_MAC};
 use crate::guest_frames::dns_query;
 use crate::inputs;
-use crate::ours::{self, Guest};
+use crate::ours::{self, Network};
 use crate::reassembly;
-use crate::rows::ROOM;
+use crate::rows::{HIGHEST_GUEST, NETWORK, ROOM, STOOD_THERE, make_guest, new_guest};
 
 pub struct Deepest {
     pub export: &'static str,
@@ -31,6 +31,7 @@ type Call = Box<dyn Fn() -> (usize, u32)>;
 
 pub fn measured() -> Vec<Deepest> {
     let exports = [
+        ("`yavoledu_make_guest`", makings()),
         ("`yavoledu_send`", sends()),
         ("`yavoledu_make_ip_frame`", ip_frames()),
         ("`yavoledu_make_udp_payload`", udp_payloads()),
@@ -53,6 +54,13 @@ pub fn measured() -> Vec<Deepest> {
         measured.reduce(deeper).unwrap()
     };
     exports.into_iter().map(deepest).collect()
+}
+
+fn makings() -> Vec<Input> {
+    vec![
+        making("a record made", NETWORK, ours::MADE),
+        making("one refused", HIGHEST_GUEST, ours::BAD_RECORD),
+    ]
 }
 
 /// Every verdict, and the longest walks over options.
@@ -216,6 +224,15 @@ fn releases() -> Vec<Input> {
     }]
 }
 
+fn making(name: &'static str, network: Network, answer: u32) -> Input {
+    let call = Box::new(move || {
+        let mut guest = STOOD_THERE;
+        let here = stack_pointer();
+        (here, make_guest(&mut guest, &network))
+    });
+    Input { name, call, answer }
+}
+
 fn taking(name: &'static str, frame: Vec<u8>, answer: u32) -> Input {
     let call = Box::new(move || {
         let (mut store, mut place) = (reassembly::half_full(), [0; 2]);
@@ -228,11 +245,7 @@ fn taking(name: &'static str, frame: Vec<u8>, answer: u32) -> Input {
 fn send(name: &'static str, frame: Vec<u8>, room: usize, answer: u32) -> Input {
     let reply = vec![0u8; room].leak().as_mut_ptr();
     let call = Box::new(move || {
-        let mut guest = Guest {
-            mac: GUEST_MAC,
-            id: 1,
-            xid: 0,
-        };
+        let mut guest = new_guest(1);
         let (at, len, mut values) = (frame.as_ptr(), frame.len(), [0; 2]);
         let here = stack_pointer();
         let number = unsafe { ours::yavoledu_send(&mut guest, at, len, reply, room, &mut values) };

@@ -5,6 +5,7 @@ use std::sync::atomic::{AtomicPtr, Ordering};
 use crate::cases::Call;
 use crate::lending::{Lender, Slot};
 use crate::library::*;
+use crate::making_02;
 
 /// The call that is being made, for where it faults.
 pub static NOW: AtomicPtr<Now> = AtomicPtr::new(std::ptr::null_mut());
@@ -97,7 +98,118 @@ pub fn send(
         after,
     };
     keeps_to_demand_1(&answer, before, frame.len(), room)?;
+    asserted(
+        number != REPLY || is_of_network(&answer.reply, &before.network),
+        "an address of the reply is not the record's",
+    )?;
     Ok(answer)
+}
+
+/// Whether the addresses of a reply, the mask and the lease time are those of this network.
+fn is_of_network(reply: &[u8], network: &Network) -> bool {
+    let Network {
+        gateway,
+        guest,
+        mask,
+        lease,
+    } = *network;
+    let holds = |place: usize, value: [u8; 4]| reply.get(place..place + 4) == Some(&value);
+    if reply.get(12..14) == Some(&ARP) {
+        return holds(28, gateway);
+    }
+    if reply.get(23) != Some(&UDP) {
+        return holds(26, gateway);
+    }
+    let [address, ones] = [guest, mask].map(u32::from_be_bytes);
+    let broadcast = (address | !ones).to_be_bytes();
+    // Behind the headers, 42 bytes, lies the message.
+    let in_message = [
+        (16, guest),
+        (20, gateway),
+        (245, gateway),
+        (251, lease.to_be_bytes()),
+        (257, mask),
+        (263, gateway),
+        (269, gateway),
+    ];
+    holds(26, gateway)
+        && holds(30, broadcast)
+        && in_message
+            .iter()
+            .all(|(place, value)| holds(42 + place, *value))
+}
+
+/// What a record is to be made of.
+#[derive(Clone, Copy, Debug, PartialEq)]
+pub struct Plan {
+    pub mac: [u8; 6],
+    pub gateway: [u8; 4],
+    pub guest: [u8; 4],
+    pub mask: [u8; 4],
+    pub lease_named: u32,
+    pub lease: u32,
+}
+
+impl Plan {
+    /// The record that document 02 has made of it, if any.
+    fn record(&self) -> Option<Guest> {
+        let network = making_02::made(making_02::Asked {
+            gateway: self.gateway,
+            guest: self.guest,
+            mask: self.mask,
+            lease: (self.lease_named != 0).then_some(self.lease),
+        })?;
+        Some(Guest {
+            mac: self.mac,
+            id: 1,
+            xid: 0,
+            network: Network::of_oracle(network),
+        })
+    }
+}
+
+/// A record made over what stands there: the answer's number.
+pub fn make_guest(
+    lender: &mut impl Lender,
+    library: &Library,
+    before: Guest,
+    plan: &Plan,
+) -> Result<u32, String> {
+    let guest: *mut Guest = lender.to_change(Slot::Record, bytes_of(&before)).cast();
+    let read = [
+        (Slot::Mac, &plan.mac[..]),
+        (Slot::Source, &plan.gateway),
+        (Slot::Target, &plan.guest),
+        (Slot::Mask, &plan.mask),
+    ];
+    let [mac, gateway, guest_ip, mask] = read.map(|(slot, bytes)| lender.to_read(slot, bytes));
+    let number = now("yavoledu_make_guest", &[], 0, || unsafe {
+        let make = library.make_guest;
+        make(
+            guest,
+            mac,
+            gateway,
+            guest_ip,
+            mask,
+            plan.lease_named,
+            plan.lease,
+        )
+    });
+    let after = unsafe { *guest };
+    let kept = read
+        .iter()
+        .all(|(slot, bytes)| lender.is_kept(*slot, bytes));
+    asserted(kept, "an address or the mask was written")?;
+    lender.take_back();
+    let expected = match plan.record() {
+        Some(made) => (MADE, made),
+        None => (BAD_RECORD, before),
+    };
+    asserted(
+        (number, after) == expected,
+        "another answer or record than document 02's",
+    )?;
+    Ok(number)
 }
 
 /// What the answer's number says of its values and of the record.

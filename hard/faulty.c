@@ -4,6 +4,15 @@
 
 enum {
     NONE,
+    MAKER_READS_PAST_THE_MAC,
+    MAKER_READS_BEFORE_THE_GATEWAY,
+    MAKER_READS_PAST_THE_MASK,
+    MAKER_WRITES_PAST_THE_RECORD,
+    MAKER_WRITES_ON_A_BAD_RECORD,
+    MAKER_LEAVES_THE_XID,
+    MAKER_GOES_BY_WHAT_STOOD_THERE,
+    MAKER_LOOKS_AT_A_LEASE_NOT_NAMED,
+    MAKER_REFUSES_A_PREFIX_OF_30,
     READS_PAST_THE_FRAME,
     READS_BEFORE_THE_FRAME,
     READS_PAST_A_CUT_TYPE,
@@ -19,6 +28,9 @@ enum {
     TAKES_THE_XID_ON_A_CUT_TYPE,
     SPENDS_THE_ID_ON_A_DROP,
     CHANGES_THE_MAC,
+    CHANGES_THE_NETWORK,
+    ANSWERS_FOR_ANOTHER_GATEWAY,
+    ANSWERS_WITH_A_MASK_OF_24,
     READS_PAST_THE_RECORD,
     READS_BEFORE_THE_RECORD,
     WRITES_A_THIRD_VALUE,
@@ -45,6 +57,15 @@ struct {
     const char *name, *harnesses;
 } const hard_faults[] = {
     {"none", ""},
+    {"maker_reads_past_the_mac", "guards memory"},
+    {"maker_reads_before_the_gateway", "guards memory"},
+    {"maker_reads_past_the_mask", "guards memory"},
+    {"maker_writes_past_the_record", "guards memory"},
+    {"maker_writes_on_a_bad_record", "guards memory"},
+    {"maker_leaves_the_xid", "guards memory"},
+    {"maker_goes_by_what_stood_there", "guards memory"},
+    {"maker_looks_at_a_lease_not_named", "guards memory"},
+    {"maker_refuses_a_prefix_of_30", "guards memory"},
     {"reads_past_the_frame", "guards memory"},
     {"reads_before_the_frame", "guards memory"},
     {"reads_past_a_cut_type", "guards memory"},
@@ -61,6 +82,9 @@ struct {
     {"takes_the_xid_on_a_cut_type", "guards memory"},
     {"spends_the_id_on_a_drop", "guards memory"},
     {"changes_the_mac", "guards memory"},
+    {"changes_the_network", "guards memory"},
+    {"answers_for_another_gateway", "guards memory"},
+    {"answers_with_a_mask_of_24", "guards memory"},
     {"reads_past_the_record", "guards memory"},
     {"reads_before_the_record", "guards memory"},
     {"writes_a_third_value", "guards memory"},
@@ -92,6 +116,26 @@ static void touch(const volatile uint8_t *at) { used = *at; }
 // Not a change of what stands there, since valgrind counts an unwritten byte that is changed as unwritten.
 static void spoil(volatile uint8_t *at) { *at = 0x5a; }
 
+uint32_t faulty_yavoledu_make_guest(yavoledu_guest *guest, const uint8_t mac[6], const uint8_t gateway[4], const uint8_t guest_ip[4],
+                                    const uint8_t mask[4], uint32_t lease_named, uint32_t lease) {
+    uint32_t xid = guest->xid;
+    switch (hard_fault) {
+    case MAKER_READS_PAST_THE_MAC: touch(mac + 6); break;
+    case MAKER_READS_BEFORE_THE_GATEWAY: touch(gateway - 1); break;
+    case MAKER_READS_PAST_THE_MASK: touch(mask + 4); break;
+    case MAKER_WRITES_PAST_THE_RECORD: spoil((uint8_t *)(guest + 1)); break;
+    case MAKER_GOES_BY_WHAT_STOOD_THERE: if (guest->network.lease == 0) return YAVOLEDU_BAD_RECORD; break;
+    case MAKER_LOOKS_AT_A_LEASE_NOT_NAMED: if (lease) lease_named = 1; break;
+    case MAKER_REFUSES_A_PREFIX_OF_30: if (mask[3] == 0xfc) return YAVOLEDU_BAD_RECORD; break;
+    }
+    uint32_t number = yavoledu_make_guest(guest, mac, gateway, guest_ip, mask, lease_named, lease);
+    switch (hard_fault) {
+    case MAKER_WRITES_ON_A_BAD_RECORD: if (number == YAVOLEDU_BAD_RECORD) guest->mac[0] ^= 1; break;
+    case MAKER_LEAVES_THE_XID: guest->xid = xid; break;
+    }
+    return number;
+}
+
 static uint32_t with_unwritten_byte(yavoledu_guest *guest, const uint8_t *frame, size_t frame_len, uint8_t *reply, size_t reply_len,
                                     size_t values[2]) {
     static uint8_t built[1 << 17];
@@ -99,6 +143,16 @@ static uint32_t with_unwritten_byte(yavoledu_guest *guest, const uint8_t *frame,
     if (number == YAVOLEDU_REPLY) {
         memcpy(reply, built, values[0] - 1);
     }
+    return number;
+}
+
+// The network is the record's again behind the call.
+static uint32_t with_network(yavoledu_network network, yavoledu_guest *guest, const uint8_t *frame, size_t frame_len, uint8_t *reply,
+                             size_t reply_len, size_t values[2]) {
+    yavoledu_network own = guest->network;
+    guest->network = network;
+    uint32_t number = yavoledu_send(guest, frame, frame_len, reply, reply_len, values);
+    guest->network = own;
     return number;
 }
 
@@ -125,7 +179,14 @@ uint32_t faulty_yavoledu_send(yavoledu_guest *guest, const uint8_t *frame, size_
                               size_t values[2]) {
     static const uint8_t *last_frame;
     size_t values_before[2] = {0, 0};
+    yavoledu_network network = guest->network;
     switch (hard_fault) {
+    case ANSWERS_FOR_ANOTHER_GATEWAY:
+        memcpy(network.gateway, "\x0a\x00\x02\x02", 4);
+        return with_network(network, guest, frame, frame_len, reply, reply_len, values);
+    case ANSWERS_WITH_A_MASK_OF_24:
+        memcpy(network.mask, "\xff\xff\xff\x00", 4);
+        return with_network(network, guest, frame, frame_len, reply, reply_len, values);
     case READS_PAST_THE_FRAME: touch(frame + frame_len); break;
     case READS_BEFORE_THE_FRAME: touch(frame - 1); break;
     case WRITES_TO_THE_FRAME: if (frame_len) *(volatile uint8_t *)frame = *frame; break;
@@ -153,6 +214,7 @@ uint32_t faulty_yavoledu_send(yavoledu_guest *guest, const uint8_t *frame, size_
     case TAKES_THE_XID_ON_A_CUT_TYPE: if (number == YAVOLEDU_CUT_TYPE) guest->xid++; break;
     case SPENDS_THE_ID_ON_A_DROP: if (number == YAVOLEDU_DROP) guest->id++; break;
     case CHANGES_THE_MAC: if (number == YAVOLEDU_REPLY) guest->mac[5] ^= 1; break;
+    case CHANGES_THE_NETWORK: if (number == YAVOLEDU_REPLY) guest->network.lease++; break;
     case WRITES_A_THIRD_VALUE: spoil((uint8_t *)(values + 2)); break;
     case WRITES_BEFORE_THE_VALUES: spoil((uint8_t *)values - 1); break;
     case LEAVES_THE_VALUES_ON_A_DROP: if (number == YAVOLEDU_DROP) memcpy(values, values_before, sizeof values_before); break;

@@ -13,6 +13,7 @@ mod calls;
 mod fuzz_input;
 #[allow(dead_code)]
 mod lending;
+#[allow(dead_code)]
 mod library;
 
 use std::process::abort;
@@ -20,7 +21,7 @@ use std::ptr::null_mut;
 use std::sync::atomic::{AtomicPtr, Ordering};
 
 use ask_gateway::Whose;
-use calls::Answer;
+use calls::{Answer, Plan};
 use compare_builders::Builder;
 use compare_rust::TheRust;
 use compare_tally::grouped;
@@ -30,6 +31,7 @@ use fuzz_input::{Asked, Input};
 use gateway_cases::numbers;
 use lending::{Guarded, Lender};
 use library::*;
+use networks::HERE;
 
 const GUIDING: Library = library!("guiding_");
 const LIBRARIES: [(&str, Library); 2] = [("as it ships", SHIPPED), ("with counters", GUIDING)];
@@ -44,11 +46,15 @@ struct Judge {
     sends: [u64; 8],
     builds: [u64; 8],
     checksums: u64,
+    made: u64,
+    not_made: u64,
     /// By kind, and outside; replies are not among them.
     reads: [u64; 9],
     replies_read: u64,
     panics: u64,
     cuts: u64,
+    /// Frames of guests on other networks than the Rust's.
+    elsewhere: u64,
 }
 
 /// The fuzzer has one thread. At its exit nothing that belongs to a thread is left.
@@ -128,6 +134,7 @@ fn guest_of(record: Record) -> Guest {
         mac: record.mac,
         id: record.id,
         xid: record.xid,
+        network: Network::of_oracle(record.network),
     }
 }
 
@@ -142,10 +149,13 @@ impl Judge {
             sends: [0; 8],
             builds: [0; 8],
             checksums: 0,
+            made: 0,
+            not_made: 0,
             reads: [0; 9],
             replies_read: 0,
             panics: 0,
             cuts: 0,
+            elsewhere: 0,
         }
     }
 
@@ -155,24 +165,19 @@ impl Judge {
             assert!(self.rust.ids.is_followed());
         }
         let input = Input::written(bytes);
-        let (mac, mut xid) = input.mac_and_xid();
+        let mut record = input.record(0);
         for (asked, room) in input.calls() {
             // The id is where the Rust's counter stands, since that is one for the process. Behind a call that the
             // Rust answered this is the record as our side left it.
-            let id = self.rust.ids.next();
-            let record = Record {
-                mac,
-                id,
-                xid,
-                network: networks::HERE,
-            };
+            record.id = self.rust.ids.next();
             match asked {
-                Asked::Frame(frame) => xid = self.sent(record, &frame, room).after.xid,
+                Asked::Frame(frame) => record.xid = self.sent(record, &frame, room).after.xid,
                 Asked::Built(Builder::Made(call), payload) => {
                     let builder = Builder::Made(call);
                     self.built(record, &builder, &payload, room);
                 }
                 Asked::Built(_, data) => self.summed(record, &data),
+                Asked::Record(plan) => self.made(record, &plan),
             }
         }
     }
@@ -182,20 +187,16 @@ impl Judge {
         self.cuts += u64::from(whose == Whose::WhereCuts);
     }
 
-    /// A guest's frame: the Rust's answer, document 01's and ours are the same, and so is what the reader says of frame
-    /// and reply and what the grammar says.
+    /// A guest's frame: document 01's answer and ours are the same, where the network is the Rust's so is the Rust's, and so
+    /// is what the reader says of frame and reply and what the grammar says.
     fn sent(&mut self, record: Record, frame: &[u8], room: usize) -> Answer {
-        let (rusts, whose) = match self.rust.answer(record, frame, room) {
-            Ok(answered) => answered,
-            Err(deed) => differs("published", &deed, &(record, frame, room)),
-        };
-        self.note(whose);
         let said = document_01::answer(record, frame, room);
-        if said != rusts {
-            let what = format!("the Rust {rusts:?}, document 01 {said:?}");
-            differs("published", &what, &(record, frame, room));
+        if record.network == HERE {
+            self.ask_the_rust(record, frame, room, &said);
+        } else {
+            self.elsewhere += 1;
         }
-        let expected = expected(&rusts);
+        let expected = expected(&said);
         self.ask(record, frame, room, &expected);
         let n = expected.reply.len();
         if n > 0 {
@@ -217,6 +218,24 @@ impl Judge {
         self.reads[kind as usize] += 1;
         self.sends[expected.number as usize] += 1;
         expected
+    }
+
+    fn ask_the_rust(
+        &mut self,
+        record: Record,
+        frame: &[u8],
+        room: usize,
+        said: &document_01::Answer,
+    ) {
+        let (rusts, whose) = match self.rust.answer(record, frame, room) {
+            Ok(answered) => answered,
+            Err(deed) => differs("published", &deed, &(record, frame, room)),
+        };
+        self.note(whose);
+        if *said != rusts {
+            let what = format!("the Rust {rusts:?}, document 01 {said:?}");
+            differs("published", &what, &(record, frame, room));
+        }
     }
 
     /// Our answer to the call, from each library and with the frame at each place in memory.
@@ -295,6 +314,22 @@ impl Judge {
         self.checksums += 1;
     }
 
+    /// A record made over this one: document 02 is the judge, in `calls`.
+    fn made(&mut self, record: Record, plan: &Plan) {
+        let mut number = 0;
+        for (name, library) in &LIBRARIES {
+            for place in 0..Guarded::PLACES {
+                self.lender.go_to(place);
+                let made = calls::make_guest(&mut self.lender, library, guest_of(record), plan);
+                number = made.unwrap_or_else(|what| differs(name, &what, &(record, plan)));
+            }
+        }
+        match number {
+            MADE => self.made += 1,
+            _ => self.not_made += 1,
+        }
+    }
+
     fn print(&self) {
         let list = |counts: &[u64]| {
             let counts: Vec<_> = counts.iter().map(|count| grouped(*count)).collect();
@@ -304,9 +339,10 @@ impl Judge {
         println!("judged, of {} inputs:", grouped(self.inputs));
         println!("  frames, verdicts 0 to 7: {}", list(&self.sends));
         println!(
-            "  of these the Rust panics on {} and cuts a length of {}, builders included",
+            "  of these the Rust panics on {} and cuts a length of {}, builders included; {} are of other networks",
             grouped(self.panics),
-            grouped(self.cuts)
+            grouped(self.cuts),
+            grouped(self.elsewhere)
         );
         println!(
             "  read strictly, kinds 1 to 6, and outside: {} / {}; replies read: {}",
@@ -316,5 +352,10 @@ impl Judge {
         );
         println!("  builders, 1 / 5 / 6: {}", list(&builds));
         println!("  checksums: {}", grouped(self.checksums));
+        println!(
+            "  records, 24 / 9: {} / {}",
+            grouped(self.made),
+            grouped(self.not_made)
+        );
     }
 }

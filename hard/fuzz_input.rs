@@ -1,15 +1,18 @@
 //! What a fuzzer's bytes stand for: a guest, and calls that are made for it in a row. Any bytes are some calls.
 
+use crate::calls::Plan;
 use crate::captured::captured;
 use crate::cases::{Call, MOST_ROOM};
 use crate::compare_builders::Builder;
 use crate::dhcp_vectors::option_bytes;
+use crate::document_01::Record;
 use crate::draws::{Draws, GATEWAY_IP, GUEST_IP, GUEST_MAC};
 use crate::gateway_cases::USUAL_ROOM;
 use crate::gateway_sequences::messages;
 use crate::guest_frames::*;
 use crate::lines::ruled_bytes;
 use crate::mended::{dhcp_frame, with_lengths};
+use crate::networks::{HERE, Network};
 
 /// Calls behind these are not made.
 const MOST_CALLS: usize = 8;
@@ -22,13 +25,14 @@ const LIMITS: [usize; 8] = [
     1_514, 65_487, 65_495, 65_515, 65_527, 65_535, 65_549, 131_074,
 ];
 
-/// What the guest's record starts with but for its id: MAC and xid.
-const GUEST: usize = 10;
-/// A builder's fields, all of them for each.
+/// What the guest's record starts with but for its id: MAC, xid, a byte that is odd where its network is not the Rust's, and
+/// that network.
+const GUEST: usize = 27;
+/// A builder's fields, all of them for each, or what a record is to be made of.
 const FIELDS: usize = 28;
 
-/// A call as it is written: how it is made, a builder's fields, two bytes of length and the frame or payload, and behind
-/// these what makes it long.
+/// A call as it is written: how it is made, the fields of one that gets no frame, two bytes of length and the frame or
+/// payload, and behind these what makes it long.
 #[derive(Clone, Default)]
 struct Item {
     how: u8,
@@ -41,8 +45,8 @@ struct Item {
 const ROOM_BITS: u8 = 0x07;
 const LENGTHS_MADE_RIGHT: u8 = 0x08;
 const LONG: u8 = 0x10;
-/// It is a builder's call from this number on.
-const BUILDER: u8 = 0xc0;
+/// It has fields from this number on: a builder's call, or one that makes a record.
+const WITH_FIELDS: u8 = 0xc0;
 
 pub struct Input {
     guest: [u8; GUEST],
@@ -52,6 +56,7 @@ pub struct Input {
 pub enum Asked {
     Frame(Vec<u8>),
     Built(Builder, Vec<u8>),
+    Record(Plan),
 }
 
 /// The next bytes; those that are not there are 0.
@@ -66,7 +71,7 @@ fn array<const N: usize>(rest: &mut &[u8]) -> [u8; N] {
 impl Item {
     fn written(rest: &mut &[u8]) -> Self {
         let [how] = array(rest);
-        let fields = (how >= BUILDER).then(|| array(rest));
+        let fields = (how >= WITH_FIELDS).then(|| array(rest));
         let len = usize::from(u16::from_be_bytes(array(rest)));
         let (bytes, behind) = rest.split_at(len.min(rest.len()));
         *rest = behind;
@@ -88,6 +93,9 @@ impl Item {
 
     /// The call and its room.
     fn asked(&self) -> (Asked, usize) {
+        if let Some(plan) = self.fields.as_ref().and_then(plan) {
+            return (Asked::Record(plan), 0);
+        }
         let (mut bytes, builder) = (self.bytes.clone(), self.fields.as_ref().map(builder));
         if let Some(long) = self.long {
             // So that a short input can be a long frame: bytes by rule behind it, or zeros.
@@ -135,13 +143,28 @@ fn longest(builder: &Option<Builder>) -> usize {
     }
 }
 
+/// What a record is to be made of, where the first of the fields says so.
+fn plan(fields: &[u8; FIELDS]) -> Option<Plan> {
+    let rest = &mut &fields[..];
+    let [which, lease_named] = array(rest);
+    let plan = Plan {
+        mac: array(rest),
+        gateway: array(rest),
+        guest: array(rest),
+        mask: array(rest),
+        lease_named: lease_named.into(),
+        lease: u32::from_be_bytes(array(rest)),
+    };
+    (which % 5 == 4).then_some(plan)
+}
+
 fn builder(fields: &[u8; FIELDS]) -> Builder {
     let rest = &mut &fields[..];
     let [which, proto_or_flags] = array(rest);
     let (dst_mac, src_ip, dst_ip) = (array(rest), array(rest), array(rest));
     let [src_port, dst_port] = [array(rest), array(rest)].map(u16::from_be_bytes);
     let [seq, ack] = [array(rest), array(rest)].map(u32::from_be_bytes);
-    match which % 4 {
+    match which % 5 {
         0 => Builder::Made(Call::Ip {
             dst_mac,
             src_ip,
@@ -176,9 +199,23 @@ impl Input {
         bytes
     }
 
-    pub fn mac_and_xid(&self) -> ([u8; 6], u32) {
-        let mut guest = &self.guest[..];
-        (array(&mut guest), u32::from_be_bytes(array(&mut guest)))
+    /// The guest's record, with this id.
+    pub fn record(&self, id: u16) -> Record {
+        let rest = &mut &self.guest[..];
+        let (mac, xid, [which]) = (array(rest), u32::from_be_bytes(array(rest)), array(rest));
+        let own = Network {
+            gateway: array(rest),
+            guest: array(rest),
+            mask: array(rest),
+            lease: u32::from_be_bytes(array(rest)),
+        };
+        let network = if which % 2 == 1 { own } else { HERE };
+        Record {
+            mac,
+            id,
+            xid,
+            network,
+        }
     }
 
     pub fn calls(&self) -> impl Iterator<Item = (Asked, usize)> {
@@ -201,7 +238,7 @@ impl Input {
             0 => self.guest = array(&mut &mutate(&self.guest, GUEST)[..]),
             1 => {
                 item.how = draws.byte() & !LONG;
-                item.fields = (item.how >= BUILDER).then(|| item.fields.unwrap_or_default());
+                item.fields = (item.how >= WITH_FIELDS).then(|| item.fields.unwrap_or_default());
                 item.long = None;
             }
             2 => {
@@ -244,7 +281,7 @@ impl Input {
 }
 
 /// Inputs to start from, with names: the frames that real software sent, each alone; and simple ones, which are a frame of
-/// each kind in a row, long pings and a call of each builder.
+/// each kind in a row, on two networks, long pings, a call of each builder, and a record made.
 pub fn seeds() -> Vec<(String, Vec<u8>)> {
     let frame = |bytes: Vec<u8>| Item {
         bytes,
@@ -275,24 +312,58 @@ pub fn seeds() -> Vec<(String, Vec<u8>)> {
         let start = [&[which, 0x12], &GUEST_MAC[..], &GATEWAY_IP, &GUEST_IP].concat();
         let fields = [start, ports_and_more.to_vec()].concat();
         Item {
-            how: BUILDER,
+            how: WITH_FIELDS,
             fields: Some(array(&mut &fields[..])),
             bytes: b"some data".to_vec(),
             long: None,
         }
     });
+    let mask_and_lease = [255, 255, 255, 0, 0, 1, 0x51, 0x80, 0, 0, 0, 0];
+    let made = [
+        &[4, 1],
+        &GUEST_MAC[..],
+        &GATEWAY_IP,
+        &GUEST_IP,
+        &mask_and_lease,
+    ]
+    .concat();
+    let record = Item {
+        how: WITH_FIELDS,
+        fields: Some(array(&mut &made[..])),
+        ..Item::default()
+    };
     let alone = long_pings
         .into_iter()
         .chain(builders)
+        .chain([record])
         .map(|item| vec![item]);
-    let simple = [in_a_row].into_iter().chain(alone);
-    let named = |kind: &'static str, number: usize, items: Vec<Item>| {
-        let guest = [0x52, 0x54, 0x00, 0x12, 0x34, 0x56, 0x39, 0x03, 0xf3, 0x26];
-        let input = Input { guest, items };
+    let simple: Vec<_> = [in_a_row].into_iter().chain(alone).collect();
+    // The Rust's network, or one with its gateway and nothing else of it.
+    let of_the_rust = [0; 17];
+    let another = [
+        &[1][..],
+        &GATEWAY_IP,
+        &[10, 0, 200, 9],
+        &[255, 255, 0, 0],
+        &[0, 0, 7, 8],
+    ]
+    .concat();
+    let named = |kind: &'static str, number: usize, own: &[u8], items: Vec<Item>| {
+        let start = [&GUEST_MAC[..], &[0x39, 0x03, 0xf3, 0x26]].concat();
+        let guest = [start, own.to_vec()].concat();
+        let input = Input {
+            guest: array(&mut &guest[..]),
+            items,
+        };
         (format!("{kind}-{number:03}"), input.bytes())
     };
-    let sent = sent.enumerate().map(|(at, items)| named("sent", at, items));
-    let simple = simple.enumerate();
-    sent.chain(simple.map(|(at, items)| named("simple", at, items)))
-        .collect()
+    let sent = sent
+        .enumerate()
+        .map(|(at, items)| named("sent", at, &of_the_rust, items));
+    let elsewhere = named("simple", simple.len(), &another, simple[0].clone());
+    let simple = simple
+        .into_iter()
+        .enumerate()
+        .map(|(at, items)| named("simple", at, &of_the_rust, items));
+    sent.chain(simple).chain([elsewhere]).collect()
 }

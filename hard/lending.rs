@@ -16,19 +16,23 @@ pub enum Slot {
     Values,
     Parts,
     Mac,
+    /// The source's address, or the gateway's.
     Source,
+    /// The target's address, or the guest's.
     Target,
+    Mask,
 }
 
-pub const SLOTS: [(Slot, &str); 8] = [
+pub const SLOTS: [(Slot, &str); 9] = [
     (Slot::Frame, "the frame or payload"),
     (Slot::Reply, "the reply"),
     (Slot::Record, "the record or its id"),
     (Slot::Values, "the values"),
     (Slot::Parts, "the parts"),
     (Slot::Mac, "the MAC"),
-    (Slot::Source, "the source address"),
-    (Slot::Target, "the target address"),
+    (Slot::Source, "the source or gateway address"),
+    (Slot::Target, "the target or guest address"),
+    (Slot::Mask, "the mask"),
 ];
 
 pub trait Lender {
@@ -137,7 +141,7 @@ impl Guarded {
             Slot::Frame => Pages::new(LONGEST, READ),
             Slot::Reply => Pages::new(LONGEST, READ_AND_WRITE),
             Slot::Record | Slot::Values | Slot::Parts => Pages::new(OUT_OF_REACH, READ_AND_WRITE),
-            Slot::Mac | Slot::Source | Slot::Target => Pages::new(OUT_OF_REACH, READ),
+            Slot::Mac | Slot::Source | Slot::Target | Slot::Mask => Pages::new(OUT_OF_REACH, READ),
         });
         Guarded {
             pages,

@@ -1,5 +1,35 @@
 //! include/yavoledu.h for Rust. The library is a table of functions, so that another can take its place.
 
+use crate::networks;
+
+/// A guest's network.
+#[repr(C)]
+#[derive(Clone, Copy, Debug, PartialEq)]
+pub struct Network {
+    pub gateway: [u8; 4],
+    pub guest: [u8; 4],
+    pub mask: [u8; 4],
+    pub lease: u32,
+}
+
+impl Network {
+    /// As `oracle/` has it.
+    pub const fn of_oracle(network: networks::Network) -> Network {
+        let networks::Network {
+            gateway,
+            guest,
+            mask,
+            lease,
+        } = network;
+        Network {
+            gateway,
+            guest,
+            mask,
+            lease,
+        }
+    }
+}
+
 /// The record that the host keeps for each guest.
 #[repr(C)]
 #[derive(Clone, Copy, Debug, PartialEq)]
@@ -7,7 +37,11 @@ pub struct Guest {
     pub mac: [u8; 6],
     pub id: u16,
     pub xid: u32,
+    pub network: Network,
 }
+
+/// The network of the published Rust and of document 01.
+pub const DOCUMENT_01: Network = Network::of_oracle(networks::HERE);
 
 pub const DROP: u32 = 0;
 pub const REPLY: u32 = 1;
@@ -18,11 +52,22 @@ pub const NO_ROOM: u32 = 5;
 pub const TOO_LONG: u32 = 6;
 pub const CUT_TYPE: u32 = 7;
 pub const OUTSIDE: u32 = 8;
+pub const BAD_RECORD: u32 = 9;
+pub const MADE: u32 = 24;
 
 pub type Values = [usize; 2];
 pub type Parts = [usize; 13];
 
 pub struct Library {
+    pub make_guest: unsafe extern "C" fn(
+        *mut Guest,
+        *const u8,
+        *const u8,
+        *const u8,
+        *const u8,
+        u32,
+        u32,
+    ) -> u32,
     pub send:
         unsafe extern "C" fn(*mut Guest, *const u8, usize, *mut u8, usize, *mut Values) -> u32,
     pub make_ip_frame: unsafe extern "C" fn(
@@ -64,6 +109,16 @@ pub struct Library {
 macro_rules! library {
     ($prefix:literal) => {{
         unsafe extern "C" {
+            #[link_name = concat!($prefix, "yavoledu_make_guest")]
+            fn make_guest(
+                guest: *mut Guest,
+                mac: *const u8,
+                gateway: *const u8,
+                guest_ip: *const u8,
+                mask: *const u8,
+                lease_named: u32,
+                lease: u32,
+            ) -> u32;
             #[link_name = concat!($prefix, "yavoledu_send")]
             fn send(
                 guest: *mut Guest,
@@ -119,6 +174,7 @@ macro_rules! library {
             fn read(frame: *const u8, frame_len: usize, parts: *mut Parts) -> u32;
         }
         Library {
+            make_guest,
             send,
             make_ip_frame,
             make_udp_payload,

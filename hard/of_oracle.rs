@@ -65,6 +65,9 @@ mod guest_frames;
 #[path = "../oracle/lines.rs"]
 mod lines;
 #[allow(dead_code)]
+#[path = "../oracle/making_02.rs"]
+mod making_02;
+#[allow(dead_code)]
 #[path = "../oracle/mended.rs"]
 mod mended;
 #[allow(dead_code)]

@@ -1,13 +1,14 @@
-//! Millions of calls, each checked: the gateway with rooms around what its reply needs, the reader, the builders and the
-//! checksum, on the same hostile frames.
+//! Millions of calls, each checked: the gateway, for records of any network, with rooms around what its reply needs, the
+//! reader, the builders and the checksum, on the same hostile frames; and records made of good and bad networks.
 
 use std::fmt::Debug;
 use std::sync::atomic::{AtomicPtr, Ordering};
 
-use crate::calls::{self, Answer, NOW};
+use crate::calls::{self, Answer, NOW, Plan};
 use crate::cases::{Call, MOST_ROOM};
 use crate::compare_builders::Builder;
 use crate::compare_tally::grouped;
+use crate::draws::Draws;
 use crate::gateway_cases::USUAL_ROOM;
 use crate::lending::{Guarded, Lender};
 use crate::library::*;
@@ -15,6 +16,7 @@ use crate::lines::hex;
 use crate::stream::Stream;
 
 const FRAMES_TO_A_BUILDER: u64 = 4;
+const FRAMES_TO_A_MAKING: u64 = 2;
 /// Of the replied-to frames one in so many meets a room of tens of thousands of bytes.
 const TURNS_TO_A_LARGE_ROOM: usize = 64;
 /// A guest is another one behind so many frames.
@@ -29,6 +31,8 @@ struct Tally {
     reads: [u64; 9],
     builds: [u64; 8],
     checksums: u64,
+    made: u64,
+    not_made: u64,
 }
 
 impl Tally {
@@ -37,7 +41,7 @@ impl Tally {
             &self.sends[..],
             &self.reads,
             &self.builds,
-            &[self.checksums],
+            &[self.checksums, self.made, self.not_made],
         ];
         all.into_iter().flatten().sum()
     }
@@ -57,6 +61,11 @@ impl Tally {
         let builds = [1, 5, 6].map(|number| self.builds[number]);
         println!("builders, 1 / 5 / 6: {}", list(&builds).join(" / "));
         println!("checksum: {}", grouped(self.checksums));
+        println!(
+            "make_guest, 24 / 9: {} / {}",
+            grouped(self.made),
+            grouped(self.not_made)
+        );
     }
 }
 
@@ -82,11 +91,15 @@ pub fn run<L: Lender>(library: &Library, lender: &mut L, frames: u64, seed: u64)
     while run.tally.frames < frames {
         let frame = run.stream.next();
         let served = run.serve(&frame);
-        let made = served.map_err(|wrong| (wrong, frame)).and_then(|()| {
+        let built = served.map_err(|wrong| (wrong, frame)).and_then(|()| {
             match run.tally.frames % FRAMES_TO_A_BUILDER {
                 0 => run.make(),
                 _ => Ok(()),
             }
+        });
+        let made = built.and_then(|()| match run.tally.frames % FRAMES_TO_A_MAKING {
+            0 => run.make_guest().map_err(|wrong| (wrong, vec![])),
+            _ => Ok(()),
         });
         if let Err((wrong, bytes)) = made {
             let calls = grouped(run.tally.calls());
@@ -97,9 +110,16 @@ pub fn run<L: Lender>(library: &Library, lender: &mut L, frames: u64, seed: u64)
         run.tally.frames += 1;
     }
     run.tally.print(L::PLACES, seed);
-    let starved = run.tally.sends.contains(&0) || run.tally.reads[1..7].contains(&0);
+    let Tally {
+        sends,
+        reads,
+        made,
+        not_made,
+        ..
+    } = &run.tally;
+    let starved = sends.contains(&0) || reads[1..7].contains(&0) || [made, not_made].contains(&&0);
     if frames >= 100_000 && starved {
-        println!("but a verdict or a kind was never met");
+        println!("but a verdict, a kind or an answer of make_guest was never met");
         return false;
     }
     println!("{} calls, none at fault", grouped(run.tally.calls()));
@@ -113,6 +133,44 @@ fn drawn_guest(stream: &mut Stream) -> Guest {
         mac: draws.mac(),
         id: draws.one_of(&[1, 65_535, any]),
         xid: draws.word(),
+        network: drawn_network(draws),
+    }
+}
+
+/// Any addresses and any mask. The gateway is mostly the one that the drawn frames are for.
+fn drawn_network(draws: &mut Draws) -> Network {
+    let (gateway, guest, mask) = (draws.ip(), draws.ip(), draws.ip());
+    Network {
+        gateway: draws.one_of(&[DOCUMENT_01.gateway, DOCUMENT_01.gateway, gateway]),
+        guest: draws.one_of(&[DOCUMENT_01.guest, guest]),
+        mask: draws.one_of(&[DOCUMENT_01.mask, mask]),
+        lease: draws.word(),
+    }
+}
+
+/// A plan that is good, or bad in one way or in several: a hole in the mask, a prefix too short or too long, addresses that
+/// are equal, of other networks, or at the edges of theirs.
+fn drawn_plan(draws: &mut Draws) -> Plan {
+    // Often the longest and the shortest prefix that will do, and the next ones.
+    let any = draws.below(33);
+    let host_bits = ((1_u64 << draws.one_of(&[1, 2, 3, 23, 24, 25, any, any, any])) - 1) as u32;
+    let contiguous = (!host_bits).to_be_bytes();
+    let [gateway, another] = [draws.ip(), draws.ip()].map(u32::from_be_bytes);
+    let (lowest, highest) = (gateway & !host_bits, gateway | host_bits);
+    let of_network = lowest | another & host_bits;
+    let guest = draws.one_of(&[of_network, of_network, of_network, lowest, highest, another]);
+    let mut addresses = [gateway, guest].map(u32::to_be_bytes);
+    if draws.below(2) == 0 {
+        addresses.reverse();
+    }
+    let any_mask = draws.ip();
+    Plan {
+        mac: draws.mac(),
+        gateway: addresses[0],
+        guest: addresses[1],
+        mask: draws.one_of(&[contiguous, contiguous, contiguous, any_mask]),
+        lease_named: draws.word() * draws.below(2) as u32,
+        lease: draws.word(),
     }
 }
 
@@ -226,6 +284,20 @@ impl<L: Lender> Run<'_, L> {
             Builder::DhcpReply { .. } | Builder::MessageType => Ok(()),
         };
         made.map_err(|wrong| (wrong, payload))
+    }
+
+    fn make_guest(&mut self) -> Result<(), String> {
+        let plan = drawn_plan(&mut self.stream.draws);
+        let (library, before) = (self.library, self.guest);
+        let number = everywhere(self.lender, |lender| {
+            calls::make_guest(lender, library, before, &plan)
+        })
+        .map_err(|wrong| format!("yavoledu_make_guest, {plan:?} over {before:?}: {wrong}"))?;
+        match number {
+            MADE => self.tally.made += L::PLACES as u64,
+            _ => self.tally.not_made += L::PLACES as u64,
+        }
+        Ok(())
     }
 
     fn made(&mut self, call: &Call, payload: &[u8], room: usize) -> Result<(), String> {

@@ -41,9 +41,24 @@ impl Service<'_> {
         }
     }
 
+    fn mix_record(&mut self, guest: Guest) {
+        let Guest {
+            mac,
+            id,
+            xid,
+            network,
+        } = guest;
+        self.mix(u64::from(id) << 32 | u64::from(xid));
+        self.mix_bytes(&mac);
+        self.mix_bytes(&[network.gateway, network.guest, network.mask].concat());
+        self.mix(u64::from(network.lease));
+    }
+
     fn serve(&mut self) {
         let (calls, library) = (self.calls, self.library);
         let (mut reply, mut values, mut parts) = (vec![0; MOST_ROOM], [0; 2], [0; 13]);
+        // A record like this guest's, made now and then.
+        let mut made = self.guest;
         for (turn, (frame, room)) in calls.iter().cycle().take(self.times).enumerate() {
             let (at, len) = (frame.as_ptr(), frame.len());
             let (out, room) = (reply.as_mut_ptr(), *room);
@@ -66,6 +81,13 @@ impl Service<'_> {
                             true,
                         )
                     }
+                    27 => {
+                        let (network, make) = (&guest.network, library.make_guest);
+                        let (mac, mask) = (guest.mac.as_ptr(), network.mask.as_ptr());
+                        let (gateway, ip) = (network.gateway.as_ptr(), network.guest.as_ptr());
+                        let lease = network.lease;
+                        (make(&mut made, mac, gateway, ip, mask, 1, lease), false)
+                    }
                     _ => {
                         let send = library.send;
                         (send(guest, at, len, out, room, &mut values), true)
@@ -73,8 +95,8 @@ impl Service<'_> {
                 }
             };
             self.mix(u64::from(number));
-            self.mix(u64::from(self.guest.id) << 32 | u64::from(self.guest.xid));
-            self.mix_bytes(&self.guest.mac.clone());
+            self.mix_record(self.guest);
+            self.mix_record(made);
             for number in values.iter().chain(&parts) {
                 self.mix(*number as u64);
             }
@@ -114,6 +136,18 @@ fn serve_at_once(services: &mut [Service]) {
     }
 }
 
+/// Every second thread's guest has document 01's network, as all drawn frames have it; of the others each has its own, on
+/// which the gateway has that address too.
+fn network_of(thread: usize) -> Network {
+    let own = Network {
+        guest: [10, 0, 64 + thread as u8, 9],
+        mask: [255, 255, 0, 0],
+        lease: thread as u32,
+        ..DOCUMENT_01
+    };
+    [DOCUMENT_01, own][thread % 2]
+}
+
 /// Whether each of the threads, at once, got what its guest got alone.
 pub fn run(library: &Library, threads: usize, times: usize, seed: u64) -> bool {
     let mut stream = Stream::new(seed);
@@ -131,6 +165,7 @@ pub fn run(library: &Library, threads: usize, times: usize, seed: u64) -> bool {
             mac: [2, 0, 0, 0, 0, thread as u8],
             id: 1 + 7_919 * thread as u16,
             xid: thread as u32,
+            network: network_of(thread),
         },
         times,
         digest: 0,

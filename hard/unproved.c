@@ -13,12 +13,18 @@ typedef struct {
 } Slice;
 
 #define WITHIN(name) __asm__("unproved::" name)
+uint32_t make_guest_within(yavoledu_guest *, const void *, const void *, const void *, const void *, uint32_t, uint32_t) WITHIN("maker::yavoledu_make_guest");
 uint32_t send_within(yavoledu_guest *, Slice *, Slice *, size_t *) WITHIN("entry::yavoledu_send");
 uint32_t ip_frame_within(uint16_t *, const void *, const void *, const void *, uint8_t, Slice *, Slice *, size_t *) WITHIN("builders::yavoledu_make_ip_frame");
 uint32_t udp_payload_within(uint16_t, uint16_t, Slice *, Slice *, size_t *) WITHIN("builders::yavoledu_make_udp_payload");
 uint32_t tcp_frame_within(uint16_t *, const void *, const void *, uint16_t, const void *, uint16_t, uint32_t, uint32_t, uint8_t, Slice *, Slice *, size_t *) WITHIN("builders::yavoledu_make_tcp_frame");
 uint16_t checksum_within(Slice *) WITHIN("builders::yavoledu_checksum");
 uint32_t read_within(Slice *, size_t *) WITHIN("reading::yavoledu_read");
+
+uint32_t guiding_yavoledu_make_guest(yavoledu_guest *guest, const uint8_t mac[6], const uint8_t gateway[4], const uint8_t guest_ip[4],
+                                     const uint8_t mask[4], uint32_t lease_named, uint32_t lease) {
+    return make_guest_within(guest, mac, gateway, guest_ip, mask, lease_named, lease);
+}
 
 uint32_t guiding_yavoledu_send(yavoledu_guest *guest, const uint8_t *frame, size_t frame_len, uint8_t *reply, size_t reply_len, size_t values[2]) {
     Slice in = {frame, frame_len}, out = {reply, reply_len};

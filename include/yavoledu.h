@@ -4,7 +4,7 @@
  *   - a pointer with a length leads to that many bytes; it is not null, also where the length is 0. Any length will do;
  *   - it is aligned as its type is in C;
  *   - what is written is no part of anything else that is lent: a reply does not overlap its frame, nor out its payload, nor a store its frame.
- *     (The id and the MAC of one record, lent to a builder, do not overlap.)
+ *     (The id and the MAC of one record, lent to a builder, do not overlap; a record and its own MAC, lent to make it anew, do.)
  * What is lent to be written may hold anything. No function allocates, keeps what it is lent, has data of its own, or
  * calls anything but memcpy and memset; any number of threads may call at once that lend different memory.
  *
@@ -47,11 +47,21 @@ enum {
     YAVOLEDU_OUTSIDE = 8
 };
 
-/* The record that the host keeps for each guest. A new guest has id 1 and xid 0. */
+/* A guest's network. Its broadcast address is the guest's address with every bit set that the mask leaves to the host. */
+typedef struct {
+    uint8_t gateway[4];
+    uint8_t guest[4];
+    uint8_t mask[4];
+    uint32_t lease; /* of a DHCP reply, in seconds */
+} yavoledu_network;
+
+/* The record that the host keeps for each guest: yavoledu_make_guest makes one. Every function answers for every record,
+ * with any addresses and any mask, and none but that one changes the MAC or the network. */
 typedef struct {
     uint8_t mac[6];
     uint16_t id;  /* of the next IPv4 frame built for the guest */
     uint32_t xid; /* of the last DHCP message that was looked into: 240 bytes or more, first byte 1, not refused */
+    yavoledu_network network;
 } yavoledu_guest;
 
 /* The state of a guest's store, in which fragments are put together: yavoledu_take and yavoledu_release read and write it.
@@ -73,11 +83,33 @@ typedef struct {
 #define YAVOLEDU_HOLDS(fact) struct yavoledu_not_looked_at
 #endif
 YAVOLEDU_HOLDS(sizeof(size_t) == 8);
-YAVOLEDU_HOLDS(sizeof(yavoledu_guest) == 12);
+YAVOLEDU_HOLDS(sizeof(yavoledu_network) == 16);
+YAVOLEDU_HOLDS(offsetof(yavoledu_network, gateway) == 0);
+YAVOLEDU_HOLDS(offsetof(yavoledu_network, guest) == 4);
+YAVOLEDU_HOLDS(offsetof(yavoledu_network, mask) == 8);
+YAVOLEDU_HOLDS(offsetof(yavoledu_network, lease) == 12);
+YAVOLEDU_HOLDS(sizeof(yavoledu_guest) == 28);
+YAVOLEDU_HOLDS(offsetof(yavoledu_guest, mac) == 0);
 YAVOLEDU_HOLDS(offsetof(yavoledu_guest, id) == 6);
 YAVOLEDU_HOLDS(offsetof(yavoledu_guest, xid) == 8);
+YAVOLEDU_HOLDS(offsetof(yavoledu_guest, network) == 12);
 YAVOLEDU_HOLDS(sizeof(yavoledu_state) == 6 * sizeof(uint32_t));
 #undef YAVOLEDU_HOLDS
+
+/* What yavoledu_make_guest answers: document 02's refusal, and a number of ours. */
+enum {
+    YAVOLEDU_BAD_RECORD = 9,
+    YAVOLEDU_MADE = 24
+};
+
+/* Makes a new guest's record in the memory lent: this MAC, id 1, xid 0, these addresses and the lease time, which is `lease`
+ * where lease_named is not 0, and else 86,400. It answers 24; or 9, and leaves the memory as it was, exactly where
+ *   - the mask is not ones followed by zeros, with at least 8 ones and at most 30;
+ *   - the two addresses are equal, or not of one network; or
+ *   - one of them is the lowest or the highest address of the network.
+ * Every MAC and every lease time will do. The memory has to be initialised, with anything: on 9 it is written as it was read. */
+uint32_t yavoledu_make_guest(yavoledu_guest *guest, const uint8_t mac[6], const uint8_t gateway[4], const uint8_t guest_ip[4],
+                             const uint8_t mask[4], uint32_t lease_named, uint32_t lease);
 
 /* What a frame of this guest gets. The data of 2 and 3 is the frame's own: frame + values[0], values[1] bytes.
  * With 65,549 bytes of room 5 is never answered, nor with frame_len + 16 and 342 at least; no reply is longer. */

@@ -173,11 +173,16 @@ fn message_type(data: &[u8]) -> Result<u8, usize> {
     }
 }
 
-/// The guest's address with every host bit set, which is the highest of its network.
+/// The guest's address with every host bit set, bit by bit: the host's are those that the mask has not.
 fn broadcast(network: Network) -> [u8; 4] {
-    let addresses = (1 << 32) - number(&network.mask);
-    let lowest = number(&network.guest) / addresses * addresses;
-    ((lowest + addresses - 1) as u32).to_be_bytes()
+    let mut address = network.guest;
+    for place in 0..32 {
+        let (byte, bit) = (place / 8, 0x80 >> (place % 8));
+        if network.mask[byte] & bit == 0 {
+            address[byte] |= bit;
+        }
+    }
+    address
 }
 
 fn dhcp_reply(record: Record, message_type: u8) -> Vec<u8> {

@@ -1,13 +1,16 @@
-//! What the gateway answers to one frame of a new guest: `cargo run --example one_frame < frame`.
+//! What the gateway answers to one frame of a new guest, on document 01's network:
+//! `cargo run --example one_frame < frame`.
 
+use std::error::Error;
 use std::io::{self, Read};
 
-use yavoledu::{Guest, Verdict};
+use yavoledu::{Guest, NetworkPlan, Verdict};
 
-fn main() -> io::Result<()> {
+fn main() -> Result<(), Box<dyn Error>> {
     let mut frame = Vec::new();
     io::stdin().read_to_end(&mut frame)?;
-    let mut guest = Guest::new([0x52, 0x54, 0x00, 0x12, 0x34, 0x56]);
+    let mac = [0x52, 0x54, 0x00, 0x12, 0x34, 0x56];
+    let mut guest = Guest::new(mac, &NetworkPlan::DOCUMENT_01)?;
     let mut reply = [0; 2048];
     let verdict = guest.send(&frame, &mut reply);
     println!("{verdict:?}");

@@ -1,9 +1,12 @@
 //! Serves a TAP device with the proved gateway: a small host around the crate, for Linux.
 //!
-//!     tap NAME
+//!     tap NAME [GATEWAY GUEST MASK [LEASE]]
 //!
 //! It attaches to the TAP device NAME, and creates one where there is none. Each frame sent into the
 //! device goes to the gateway, with the record of the MAC that it came from; a reply is written back.
+//! The network has these addresses of gateway and guest, this mask (255.255.255.0, or the number of its
+//! ones, 24), and this lease time in seconds, or the library's default. Behind NAME alone it is document
+//! 01's.
 //! What the gateway hands to its host (DNS, relay, TCP) is printed, a line each, and served by nobody;
 //! so are refusals. Nothing but the device is opened. SIGTERM and SIGINT end it, with a tally.
 //!
@@ -25,7 +28,7 @@ use std::os::fd::AsRawFd;
 use std::process::ExitCode;
 use std::sync::atomic::{AtomicBool, Ordering};
 
-use yavoledu::{Guest, Verdict};
+use yavoledu::{Guest, NetworkPlan, Verdict};
 
 /// The most MACs that get a record. A frame from any further one gets no answer and is counted. No
 /// record makes room for another, since a guest that lost its own would see its ids start again.
@@ -41,13 +44,21 @@ const REPLY_ROOM: usize = 65_549;
 const ETHERNET_HEADER: usize = 14;
 const UDP_HEADER: usize = 8;
 
+const USAGE: &str = "usage: tap NAME [GATEWAY GUEST MASK [LEASE]]
+  MASK   as an address, or the number of its ones
+  LEASE  in seconds";
+
 fn main() -> ExitCode {
-    let mut words = env::args().skip(1);
-    let (Some(name), None) = (words.next(), words.next()) else {
-        eprintln!("usage: tap NAME");
-        return ExitCode::from(2);
+    let words: Vec<String> = env::args().skip(1).collect();
+    let words: Vec<&str> = words.iter().map(String::as_str).collect();
+    let (name, new_guest) = match asked(&words) {
+        Ok(asked) => asked,
+        Err(why) => {
+            eprintln!("tap: {why}\n{USAGE}");
+            return ExitCode::from(2);
+        }
     };
-    let device = match linux::attach(&name) {
+    let device = match linux::attach(name) {
         Ok(device) => device,
         Err(error) => {
             eprintln!("tap: can't attach to {name}: {error}");
@@ -57,10 +68,11 @@ fn main() -> ExitCode {
     linux::end_on_signals();
     let mut host = Host {
         device,
+        new_guest,
         guests: HashMap::new(),
         tally: Tally::default(),
     };
-    let served = host.serve(&name);
+    let served = host.serve(name);
     println!("tally: {}, guests {}", host.tally, host.guests.len());
     match served {
         Ok(()) => ExitCode::SUCCESS,
@@ -71,8 +83,49 @@ fn main() -> ExitCode {
     }
 }
 
+/// The device's name, and a new guest's record on the network that the words ask for, but for its MAC.
+fn asked<'a>(words: &[&'a str]) -> Result<(&'a str, Guest), String> {
+    let (name, plan) = match *words {
+        [name] => (name, NetworkPlan::DOCUMENT_01),
+        [name, gateway, guest, mask, ref lease @ ..] if lease.len() < 2 => {
+            let plan = NetworkPlan {
+                gateway: address(gateway)?,
+                guest: address(guest)?,
+                mask: mask_of(mask)?,
+                lease: lease.first().map(|word| seconds(word)).transpose()?,
+            };
+            (name, plan)
+        }
+        _ => return Err(format!("{} words are too few or too many", words.len())),
+    };
+    let new_guest = Guest::new([0; 6], &plan).map_err(|bad| bad.to_string())?;
+    Ok((name, new_guest))
+}
+
+fn address(word: &str) -> Result<[u8; 4], String> {
+    let address: Ipv4Addr = word
+        .parse()
+        .map_err(|_| format!("'{word}' is no IPv4 address"))?;
+    Ok(address.octets())
+}
+
+fn mask_of(word: &str) -> Result<[u8; 4], String> {
+    match word.parse::<u32>() {
+        // In 64 bits, since 32 zeros would be too many to shift by.
+        Ok(ones @ 0..=32) => Ok(((u64::MAX << (32 - ones)) as u32).to_be_bytes()),
+        _ => address(word).map_err(|_| format!("'{word}' is no mask and no number from 0 to 32")),
+    }
+}
+
+fn seconds(word: &str) -> Result<u32, String> {
+    word.parse()
+        .map_err(|_| format!("'{word}' is no lease time: a number from 0 to {}", u32::MAX))
+}
+
 struct Host {
     device: File,
+    /// What every guest starts with, but for its MAC.
+    new_guest: Guest,
     guests: HashMap<[u8; 6], Guest>,
     tally: Tally,
 }
@@ -104,7 +157,10 @@ impl Host {
         }
         let guest = self.guests.entry(mac).or_insert_with(|| {
             println!("guest {}", Mac(mac));
-            Guest::new(mac)
+            Guest {
+                mac,
+                ..self.new_guest.clone()
+            }
         });
         match guest.send(frame, reply) {
             Verdict::Drop => self.tally.drops += 1,

@@ -4,7 +4,7 @@
 //! as many bytes as it says; and what is lent by `&mut` is no part of anything else that is lent. The functions keep nothing
 //! and don't unwind.
 
-use crate::{Endpoints, Guest, Layer};
+use crate::{Endpoints, Guest, Layer, NetworkPlan};
 
 /// The values that come with a call's number.
 pub(crate) type Values = [usize; 2];
@@ -44,6 +44,16 @@ const ABSENT: Layer = Layer {
 };
 
 unsafe extern "C" {
+    fn yavoledu_make_guest(
+        guest: *mut Guest,
+        mac: *const [u8; 6],
+        gateway: *const [u8; 4],
+        guest_ip: *const [u8; 4],
+        mask: *const [u8; 4],
+        lease_named: u32,
+        lease: u32,
+    ) -> u32;
+
     fn yavoledu_send(
         guest: *mut Guest,
         frame: *const u8,
@@ -117,9 +127,28 @@ unsafe extern "C" {
     ) -> u32;
 }
 
+pub(crate) fn make_guest(guest: &mut Guest, mac: &[u8; 6], plan: &NetworkPlan) -> u32 {
+    let (lease_named, lease) = match plan.lease {
+        Some(seconds) => (1, seconds),
+        None => (0, 0),
+    };
+    // SAFETY: each pointer comes from a reference to as much as the header asks, and `Guest` is laid out as its record.
+    unsafe {
+        yavoledu_make_guest(
+            guest,
+            mac,
+            &plan.gateway,
+            &plan.guest,
+            &plan.mask,
+            lease_named,
+            lease,
+        )
+    }
+}
+
 pub(crate) fn send(guest: &mut Guest, frame: &[u8], reply: &mut [u8]) -> (u32, Values) {
     let mut values = [0; 2];
-    // SAFETY: each pointer comes from a reference to as much as the header asks, and `Guest` is laid out as its record.
+    // SAFETY: as in `make_guest`.
     let number = unsafe {
         yavoledu_send(
             guest,

@@ -1,15 +1,29 @@
+use core::error::Error;
+use core::fmt;
+use core::mem::offset_of;
+
 use crate::ffi;
 use crate::{Endpoints, Refusal, Verdict};
 
-/// The record that the host keeps for one guest. Every call updates it.
+/// The record that the host keeps for one guest: [`Guest::new`] makes one, and every call updates it.
 ///
 /// It can be cloned, but not by accident (it isn't `Copy`): a copy builds frames with ids that the first has used too.
 ///
-/// ```
-/// use yavoledu::Guest;
+/// A host may also put one together, as to go on with a record that it saved. Every call answers for every record, with any
+/// addresses and any mask, and none changes its MAC or its network.
 ///
-/// let guest = Guest::new([0x52, 0x54, 0x00, 0x12, 0x34, 0x56]);
-/// assert_eq!(guest, Guest { mac: [0x52, 0x54, 0x00, 0x12, 0x34, 0x56], id: 1, xid: 0 });
+/// ```
+/// use yavoledu::{Guest, Network, NetworkPlan};
+///
+/// let guest = Guest::new([0x52, 0x54, 0x00, 0x12, 0x34, 0x56], &NetworkPlan::DOCUMENT_01)?;
+/// let network = Network {
+///     gateway: [10, 0, 2, 2],
+///     guest: [10, 0, 2, 15],
+///     mask: [255, 255, 255, 0],
+///     lease: 86_400,
+/// };
+/// assert_eq!(guest, Guest { mac: [0x52, 0x54, 0x00, 0x12, 0x34, 0x56], id: 1, xid: 0, network });
+/// # Ok::<(), yavoledu::BadRecord>(())
 /// ```
 #[repr(C)]
 #[derive(Clone, Debug, PartialEq, Eq)]
@@ -21,18 +35,154 @@ pub struct Guest {
     /// The xid of the last DHCP message that was looked into: 240 bytes or more, its first byte 1, and not refused. Its first
     /// byte in the message is the highest.
     pub xid: u32,
+    /// The network that the guest is on.
+    pub network: Network,
 }
 
-impl Guest {
-    /// A new guest: the first id is 1, and no DHCP message has come.
+/// The network of a record. Its broadcast address is the guest's address with every bit set that the mask leaves to the host.
+///
+/// ```
+/// use yavoledu::{Guest, NetworkPlan};
+///
+/// let plan = NetworkPlan { lease: Some(3_600), ..NetworkPlan::DOCUMENT_01 };
+/// let guest = Guest::new([2, 0, 0, 0, 0, 1], &plan)?;
+/// assert_eq!(guest.network.gateway, plan.gateway);
+/// assert_eq!(guest.network.lease, 3_600);
+/// # Ok::<(), yavoledu::BadRecord>(())
+/// ```
+#[repr(C)]
+#[derive(Clone, Copy, Debug, PartialEq, Eq, Hash)]
+pub struct Network {
+    /// The gateway's address: it answers ARP and pings, and takes DNS queries.
+    pub gateway: [u8; 4],
+    /// The guest's address, which DHCP gives it.
+    pub guest: [u8; 4],
+    /// The mask, which DHCP tells.
+    pub mask: [u8; 4],
+    /// The lease time that DHCP tells, in seconds.
+    pub lease: u32,
+}
+
+// As in include/yavoledu.h.
+const _: () = {
+    assert!(size_of::<Network>() == 16 && align_of::<Network>() == 4);
+    assert!(offset_of!(Network, gateway) == 0);
+    assert!(offset_of!(Network, guest) == 4);
+    assert!(offset_of!(Network, mask) == 8);
+    assert!(offset_of!(Network, lease) == 12);
+    assert!(size_of::<Guest>() == 28 && align_of::<Guest>() == 4);
+    assert!(offset_of!(Guest, mac) == 0);
+    assert!(offset_of!(Guest, id) == 6);
+    assert!(offset_of!(Guest, xid) == 8);
+    assert!(offset_of!(Guest, network) == 12);
+};
+
+/// What a new record's network is to be, for [`Guest::new`].
+///
+/// ```
+/// use yavoledu::{Guest, NetworkPlan};
+///
+/// let plan = NetworkPlan {
+///     gateway: [192, 168, 77, 1],
+///     guest: [192, 168, 77, 9],
+///     mask: [255, 255, 255, 192],
+///     lease: None,
+/// };
+/// let guest = Guest::new([2, 0, 0, 0, 0, 1], &plan)?;
+/// assert_eq!(guest.network.guest, [192, 168, 77, 9]);
+/// # Ok::<(), yavoledu::BadRecord>(())
+/// ```
+#[derive(Clone, Copy, Debug, PartialEq, Eq, Hash)]
+pub struct NetworkPlan {
+    /// The gateway's address.
+    pub gateway: [u8; 4],
+    /// The guest's address.
+    pub guest: [u8; 4],
+    /// The mask: ones followed by zeros, at least 8 ones and at most 30.
+    pub mask: [u8; 4],
+    /// The lease time in seconds. Without one the record gets the library's default, 86,400.
+    pub lease: Option<u32>,
+}
+
+impl NetworkPlan {
+    /// The network of document 01, which is the only one that the published Rust knows: the gateway is 10.0.2.2, the guest
+    /// 10.0.2.15, the mask 255.255.255.0, and a lease lasts a day.
     ///
     /// ```
-    /// const GUEST: yavoledu::Guest = yavoledu::Guest::new([2, 0, 0, 0, 0, 1]);
-    /// assert_eq!((GUEST.id, GUEST.xid), (1, 0));
+    /// use yavoledu::NetworkPlan;
+    ///
+    /// assert_eq!(NetworkPlan::DOCUMENT_01.guest, [10, 0, 2, 15]);
     /// ```
-    #[must_use]
-    pub const fn new(mac: [u8; 6]) -> Guest {
-        Guest { mac, id: 1, xid: 0 }
+    pub const DOCUMENT_01: NetworkPlan = NetworkPlan {
+        gateway: [10, 0, 2, 2],
+        guest: [10, 0, 2, 15],
+        mask: [255, 255, 255, 0],
+        lease: Some(86_400),
+    };
+}
+
+/// No record was made, since the plan is of no good network: document 02's refusal 9. [`Guest::new`] says when.
+///
+/// ```
+/// use yavoledu::{BadRecord, Guest, NetworkPlan};
+///
+/// let plan = NetworkPlan { guest: [10, 0, 3, 15], ..NetworkPlan::DOCUMENT_01 };
+/// assert_eq!(Guest::new([2, 0, 0, 0, 0, 1], &plan), Err(BadRecord));
+/// assert!(BadRecord.to_string().starts_with("no network has this mask and these addresses"));
+/// ```
+#[derive(Clone, Copy, Debug, PartialEq, Eq, Hash)]
+pub struct BadRecord;
+
+impl fmt::Display for BadRecord {
+    fn fmt(&self, formatter: &mut fmt::Formatter<'_>) -> fmt::Result {
+        formatter.write_str(
+            "no network has this mask and these addresses: the mask has to be 8 to 30 ones and zeros behind them, and the \
+             addresses two of its network, neither of them its lowest or its highest",
+        )
+    }
+}
+
+impl Error for BadRecord {}
+
+/// What the library answers where it has made a record.
+const MADE: u32 = 24;
+
+impl Guest {
+    /// A new guest: the first id is 1, and no DHCP message has come. Every MAC and every lease time will do.
+    ///
+    /// # Errors
+    ///
+    /// [`BadRecord`] exactly where the mask is not ones followed by zeros, with 8 to 30 ones; or the two addresses are equal or
+    /// not of one network; or one of them is its lowest or its highest address.
+    ///
+    /// ```
+    /// use yavoledu::{BadRecord, Guest, NetworkPlan};
+    ///
+    /// let guest = Guest::new([2, 0, 0, 0, 0, 1], &NetworkPlan::DOCUMENT_01)?;
+    /// assert_eq!((guest.id, guest.xid), (1, 0));
+    ///
+    /// let mask_with_a_hole = NetworkPlan { mask: [255, 0, 255, 0], ..NetworkPlan::DOCUMENT_01 };
+    /// assert_eq!(Guest::new(guest.mac, &mask_with_a_hole), Err(BadRecord));
+    /// # Ok::<(), BadRecord>(())
+    /// ```
+    pub fn new(mac: [u8; 6], plan: &NetworkPlan) -> Result<Guest, BadRecord> {
+        let mut guest = Guest {
+            mac: [0; 6],
+            id: 0,
+            xid: 0,
+            network: Network {
+                gateway: [0; 4],
+                guest: [0; 4],
+                mask: [0; 4],
+                lease: 0,
+            },
+        };
+        // That the number is this one or 9 is proved; no number panics.
+        if ffi::make_guest(&mut guest, &mac, plan) == MADE {
+            Ok(guest)
+        } else {
+            Err(BadRecord)
+        }
     }
 
     /// What a frame of this guest gets. A reply is written into `reply`; what is handed on stays in the frame.
@@ -41,16 +191,16 @@ impl Guest {
     /// of `frame.len() + 16` bytes, and 342 at least: that is proved.
     ///
     /// ```
-    /// use yavoledu::{Guest, Verdict, make_udp_payload};
+    /// use yavoledu::{Guest, NetworkPlan, Verdict, make_udp_payload};
     ///
-    /// let mut guest = Guest::new([0x52, 0x54, 0x00, 0x12, 0x34, 0x56]);
+    /// let mut guest = Guest::new([0x52, 0x54, 0x00, 0x12, 0x34, 0x56], &NetworkPlan::DOCUMENT_01)?;
     ///
     /// // A datagram of the guest for 192.0.2.1, port 7.
     /// let mut datagram = [0; 12];
     /// make_udp_payload(1024, 7, b"data", &mut datagram)?;
     /// let mut frame = [0; 46];
-    /// Guest::new(guest.mac).make_ip_frame(
-    ///     [0x52, 0x54, 0x00, 0x00, 0x00, 0x01], [10, 0, 2, 15], [192, 0, 2, 1], 17, &datagram, &mut frame,
+    /// guest.clone().make_ip_frame(
+    ///     [0x52, 0x54, 0x00, 0x00, 0x00, 0x01], guest.network.guest, [192, 0, 2, 1], 17, &datagram, &mut frame,
     /// )?;
     ///
     /// let mut reply = [0; 2048];
@@ -58,7 +208,7 @@ impl Guest {
     ///     Verdict::Relay { start, len } => assert_eq!(&frame[start..start + len], b"data"),
     ///     verdict => unreachable!("{verdict:?}"),
     /// }
-    /// # Ok::<(), yavoledu::Refusal>(())
+    /// # Ok::<(), Box<dyn std::error::Error>>(())
     /// ```
     pub fn send(&mut self, frame: &[u8], reply: &mut [u8]) -> Verdict {
         let (number, values) = ffi::send(self, frame, reply);
@@ -73,16 +223,16 @@ impl Guest {
     /// [`Refusal::TooLong`] with a longer payload; else [`Refusal::NoRoom`] where `out` is shorter than the frame.
     ///
     /// ```
-    /// use yavoledu::Guest;
+    /// use yavoledu::{Guest, NetworkPlan};
     ///
-    /// let mut guest = Guest::new([0x52, 0x54, 0x00, 0x12, 0x34, 0x56]);
+    /// let mut guest = Guest::new([0x52, 0x54, 0x00, 0x12, 0x34, 0x56], &NetworkPlan::DOCUMENT_01)?;
     /// let mut out = [0; 1514];
-    /// let n = guest.make_ip_frame(guest.mac, [192, 0, 2, 1], [10, 0, 2, 15], 17, b"payload", &mut out)?;
+    /// let n = guest.make_ip_frame(guest.mac, [192, 0, 2, 1], guest.network.guest, 17, b"payload", &mut out)?;
     /// assert_eq!(n, 34 + 7);
     /// assert_eq!(&out[34..n], b"payload");
     /// assert_eq!(out[18..20], [0, 1]);
     /// assert_eq!(guest.id, 2);
-    /// # Ok::<(), yavoledu::Refusal>(())
+    /// # Ok::<(), Box<dyn std::error::Error>>(())
     /// ```
     pub fn make_ip_frame(
         &mut self,
@@ -114,14 +264,14 @@ impl Guest {
     /// [`Refusal::TooLong`] with more data; else [`Refusal::NoRoom`] where `out` is shorter than the frame.
     ///
     /// ```
-    /// use yavoledu::{Endpoints, Guest};
+    /// use yavoledu::{Endpoints, Guest, NetworkPlan};
     ///
-    /// let mut guest = Guest::new([0x52, 0x54, 0x00, 0x12, 0x34, 0x56]);
+    /// let mut guest = Guest::new([0x52, 0x54, 0x00, 0x12, 0x34, 0x56], &NetworkPlan::DOCUMENT_01)?;
     /// let ends = Endpoints {
     ///     dst_mac: guest.mac,
     ///     src_ip: [192, 0, 2, 1],
     ///     src_port: 80,
-    ///     dst_ip: [10, 0, 2, 15],
+    ///     dst_ip: guest.network.guest,
     ///     dst_port: 49_152,
     /// };
     /// let mut out = [0; 1514];
@@ -129,7 +279,7 @@ impl Guest {
     /// assert_eq!(guest.make_tcp_frame(&ends, 1000, 2001, syn | ack, b"", &mut out)?, 62);
     /// assert_eq!(guest.make_tcp_frame(&ends, 1001, 2001, ack, b"hello", &mut out)?, 59);
     /// assert_eq!(&out[54..59], b"hello");
-    /// # Ok::<(), yavoledu::Refusal>(())
+    /// # Ok::<(), Box<dyn std::error::Error>>(())
     /// ```
     pub fn make_tcp_frame(
         &mut self,

@@ -1,13 +1,13 @@
 //! The gateway of a guest network, as far as a guest can reach it with one frame: a safe interface to the proved library of
 //! this repository.
 //!
-//! A host keeps one [`Guest`] for each guest. It hands [`Guest::send`] each frame that the guest sends, and the [`Verdict`]
-//! says what to do with it.
+//! A host keeps one [`Guest`] for each guest, with the [`Network`] that the guest is on. It hands [`Guest::send`] each frame
+//! that the guest sends, and the [`Verdict`] says what to do with it.
 //!
 //! ```
-//! use yavoledu::{Guest, Verdict};
+//! use yavoledu::{Guest, NetworkPlan, Verdict};
 //!
-//! let mut guest = Guest::new([0x52, 0x54, 0x00, 0x12, 0x34, 0x56]);
+//! let mut guest = Guest::new([0x52, 0x54, 0x00, 0x12, 0x34, 0x56], &NetworkPlan::DOCUMENT_01)?;
 //! // The guest asks by ARP who has 10.0.2.2.
 //! let frame = [
 //!     0xff, 0xff, 0xff, 0xff, 0xff, 0xff, 0x52, 0x54, 0x00, 0x12, 0x34, 0x56, 0x08, 0x06, // Ethernet
@@ -19,10 +19,11 @@
 //! assert_eq!(guest.send(&frame, &mut reply), Verdict::Reply(42));
 //! // 10.0.2.2 is at 52:54:00:00:00:01.
 //! assert_eq!(reply[22..32], [0x52, 0x54, 0x00, 0x00, 0x00, 0x01, 10, 0, 2, 2]);
+//! # Ok::<(), yavoledu::BadRecord>(())
 //! ```
 //!
-//! The network is 10.0.2.0 with mask 255.255.255.0, the gateway 10.0.2.2 at 52:54:00:00:00:01, the guest 10.0.2.15.
-//! The rules are those of document 01, the customer's.
+//! Each record has addresses, mask and lease time of its own, and two guests may have the same. The gateway's MAC is
+//! 52:54:00:00:00:01 on every network. The rules are those of documents 01 and 02, the customer's.
 //!
 //! Beside the gateway stand the builders of frames ([`Guest::make_ip_frame`], [`Guest::make_tcp_frame`], [`make_udp_payload`]),
 //! the [`checksum`], a strict reader ([`read`]), and a store in which fragments are put together ([`Store`]).
@@ -51,7 +52,7 @@ mod verdict;
 struct Readme;
 
 pub use builders::{Endpoints, checksum, make_udp_payload};
-pub use guest::Guest;
+pub use guest::{BadRecord, Guest, Network, NetworkPlan};
 pub use reading::{Layer, Reading, read};
 pub use store::{Datagram, STORE_BYTES, STORE_WORDS, Store, Taken, Unstored};
 pub use verdict::{Refusal, Verdict};

@@ -5,10 +5,11 @@ use crate::ffi::{self, Parts};
 /// A header and its payload, as places in the frame, counted from its first byte.
 ///
 /// ```
-/// use yavoledu::{Guest, Reading, read};
+/// use yavoledu::{Guest, NetworkPlan, Reading, read};
 ///
 /// let mut frame = [0; 41];
-/// Guest::new([2, 0, 0, 0, 0, 1]).make_ip_frame([0xff; 6], [10, 0, 2, 2], [10, 0, 2, 15], 253, b"payload", &mut frame)?;
+/// Guest::new([2, 0, 0, 0, 0, 1], &NetworkPlan::DOCUMENT_01)?
+///     .make_ip_frame([0xff; 6], [10, 0, 2, 2], [10, 0, 2, 15], 253, b"payload", &mut frame)?;
 /// match read(&frame) {
 ///     Some(Reading::OtherIpv4 { ip, .. }) => {
 ///         assert_eq!(frame[ip.header_range()].len(), 20);
@@ -16,7 +17,7 @@ use crate::ffi::{self, Parts};
 ///     }
 ///     reading => unreachable!("{reading:?}"),
 /// }
-/// # Ok::<(), yavoledu::Refusal>(())
+/// # Ok::<(), Box<dyn std::error::Error>>(())
 /// ```
 #[repr(C)]
 #[derive(Clone, Copy, Debug, PartialEq, Eq, Hash)]
@@ -69,9 +70,10 @@ impl Layer {
 ///     }
 /// }
 /// # let mut frame = [0; 34];
-/// # yavoledu::Guest::new([0; 6]).make_ip_frame([0; 6], [10, 0, 2, 2], [10, 0, 2, 15], 253, &[], &mut frame)?;
+/// # yavoledu::Guest::new([0; 6], &yavoledu::NetworkPlan::DOCUMENT_01)?
+/// #     .make_ip_frame([0; 6], [10, 0, 2, 2], [10, 0, 2, 15], 253, &[], &mut frame)?;
 /// assert_eq!(sends_from(&frame), Some(&[10, 0, 2, 2][..]));
-/// # Ok::<(), yavoledu::Refusal>(())
+/// # Ok::<(), Box<dyn std::error::Error>>(())
 /// ```
 #[derive(Clone, Copy, Debug, PartialEq, Eq, Hash)]
 pub enum Reading {
@@ -137,12 +139,12 @@ pub enum Reading {
 /// A DHCP message of many options takes stack, at most 40 kB; every other call of this crate takes less than 1 kB.
 ///
 /// ```
-/// use yavoledu::{Guest, Reading, make_udp_payload, read};
+/// use yavoledu::{Guest, NetworkPlan, Reading, make_udp_payload, read};
 ///
 /// let mut datagram = [0; 12];
 /// make_udp_payload(7, 1024, b"data", &mut datagram)?;
 /// let mut frame = [0; 47];
-/// let n = Guest::new([2, 0, 0, 0, 0, 1])
+/// let n = Guest::new([2, 0, 0, 0, 0, 1], &NetworkPlan::DOCUMENT_01)?
 ///     .make_ip_frame([0xff; 6], [192, 0, 2, 1], [10, 0, 2, 15], 17, &datagram, &mut frame)?;
 ///
 /// match read(&frame[..n]) {
@@ -150,7 +152,7 @@ pub enum Reading {
 ///     reading => unreachable!("{reading:?}"),
 /// }
 /// assert_eq!(read(&frame[..n + 1]), None);
-/// # Ok::<(), yavoledu::Refusal>(())
+/// # Ok::<(), Box<dyn std::error::Error>>(())
 /// ```
 #[must_use]
 pub fn read(frame: &[u8]) -> Option<Reading> {

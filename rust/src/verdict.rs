@@ -12,7 +12,7 @@ use crate::ffi::Values;
 /// | any other | nothing |
 ///
 /// ```
-/// use yavoledu::{Guest, Verdict};
+/// use yavoledu::{Guest, NetworkPlan, Verdict};
 ///
 /// fn describe(verdict: Verdict) -> String {
 ///     match verdict {
@@ -26,8 +26,9 @@ use crate::ffi::Values;
 ///         Verdict::CutType(place) => format!("the DHCP message ends inside its option at {place}"),
 ///     }
 /// }
-/// let mut guest = Guest::new([0x52, 0x54, 0x00, 0x12, 0x34, 0x56]);
+/// let mut guest = Guest::new([0x52, 0x54, 0x00, 0x12, 0x34, 0x56], &NetworkPlan::DOCUMENT_01)?;
 /// assert_eq!(describe(guest.send(&[], &mut [])), "nothing to do");
+/// # Ok::<(), yavoledu::BadRecord>(())
 /// ```
 #[derive(Clone, Copy, Debug, PartialEq, Eq, Hash)]
 #[must_use = "a reply has to go to the guest, and what is handed on to whom it is for"]

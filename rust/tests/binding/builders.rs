@@ -35,9 +35,9 @@ type Build<'a> = dyn Fn(&mut Guest, &mut [u8]) -> Result<usize, Refusal> + 'a;
 
 fn guest(id: u16) -> Guest {
     Guest {
-        mac: [0xd1; 6],
         id,
         xid: 0xe1e2_e3e4,
+        ..new_guest([0xd1; 6])
     }
 }
 

@@ -1,11 +1,43 @@
 //! Frames put together byte by byte.
 
+use yavoledu::{Guest, Network};
+
 pub const GUEST_MAC: [u8; 6] = [0x52, 0x54, 0x00, 0x12, 0x34, 0x56];
 pub const GATEWAY_MAC: [u8; 6] = [0x52, 0x54, 0x00, 0x00, 0x00, 0x01];
 pub const GUEST_IP: [u8; 4] = [10, 0, 2, 15];
 pub const GATEWAY_IP: [u8; 4] = [10, 0, 2, 2];
 pub const BROADCAST_IP: [u8; 4] = [10, 0, 2, 255];
 pub const OUTSIDE_IP: [u8; 4] = [192, 0, 2, 1];
+
+/// Document 01's.
+pub const NETWORK: Network = Network {
+    gateway: GATEWAY_IP,
+    guest: GUEST_IP,
+    mask: [255, 255, 255, 0],
+    lease: 86_400,
+};
+
+/// A new guest's record on document 01's network.
+pub const fn new_guest(mac: [u8; 6]) -> Guest {
+    Guest {
+        mac,
+        id: 1,
+        xid: 0,
+        network: NETWORK,
+    }
+}
+
+/// "the guest address with every host bit set", bit by bit: the host's are those that the mask has not.
+pub fn broadcast(network: &Network) -> [u8; 4] {
+    let mut address = network.guest;
+    for place in 0..32 {
+        let (byte, bit) = (place / 8, 0x80 >> (place % 8));
+        if network.mask[byte] & bit == 0 {
+            address[byte] |= bit;
+        }
+    }
+    address
+}
 
 pub const ICMP: u8 = 1;
 pub const TCP: u8 = 6;
@@ -43,8 +75,18 @@ pub fn arp(operation: u16, sender: ([u8; 6], [u8; 4]), target: ([u8; 6], [u8; 4]
 
 /// A1's request: who has 10.0.2.2?
 pub fn arp_request() -> Vec<u8> {
-    let request = arp(1, (GUEST_MAC, GUEST_IP), ([0; 6], GATEWAY_IP));
+    arp_request_for(GATEWAY_IP)
+}
+
+pub fn arp_request_for(target: [u8; 4]) -> Vec<u8> {
+    let request = arp(1, (GUEST_MAC, GUEST_IP), ([0; 6], target));
     ethernet([0xff; 6], GUEST_MAC, 0x0806, &request)
+}
+
+/// The frame of the reply to `arp_request_for` the gateway.
+pub fn arp_reply(gateway: [u8; 4]) -> Vec<u8> {
+    let reply = arp(2, (GATEWAY_MAC, gateway), (GUEST_MAC, GUEST_IP));
+    ethernet(GUEST_MAC, GATEWAY_MAC, 0x0806, &reply)
 }
 
 /// An IPv4 packet, its header's checksum right. The options are a multiple of four bytes.
@@ -91,7 +133,11 @@ pub fn echo(kind: u8, rest: &[u8]) -> Vec<u8> {
 pub const PING: [u8; 4] = [0, 1, 0, 1];
 
 pub fn ping(rest: &[u8]) -> Vec<u8> {
-    from_guest(ICMP, GATEWAY_IP, &echo(8, rest))
+    ping_to(GATEWAY_IP, rest)
+}
+
+pub fn ping_to(target: [u8; 4], rest: &[u8]) -> Vec<u8> {
+    from_guest(ICMP, target, &echo(8, rest))
 }
 
 /// A UDP datagram with the checksum 0, which says that there is none.
@@ -161,36 +207,47 @@ pub fn from_dhcp_client(message: &[u8]) -> Vec<u8> {
     from_guest(UDP, [255; 4], &udp(68, 67, message))
 }
 
-/// The frame of a DHCP reply, row by row as document 01 has it, to a guest frame from `GUEST_MAC`.
-pub fn dhcp_reply(id: u16, record_mac: [u8; 6], xid: [u8; 4], message_type: u8) -> Vec<u8> {
+/// The frame of a DHCP reply to a guest frame from `GUEST_MAC`, row by row as document 01 has it, for this record.
+pub fn dhcp_reply(record: &Guest, xid: [u8; 4], message_type: u8) -> Vec<u8> {
+    let Network {
+        gateway,
+        guest,
+        mask,
+        lease,
+    } = record.network;
     let mut message = vec![0; 300];
     message[..4].copy_from_slice(&[2, 1, 6, 0]);
     message[4..8].copy_from_slice(&xid);
-    message[16..20].copy_from_slice(&GUEST_IP);
-    message[20..24].copy_from_slice(&GATEWAY_IP);
-    message[28..34].copy_from_slice(&record_mac);
+    message[16..20].copy_from_slice(&guest);
+    message[20..24].copy_from_slice(&gateway);
+    message[28..34].copy_from_slice(&record.mac);
     message[236..240].copy_from_slice(&[0x63, 0x82, 0x53, 0x63]);
     message[240..243].copy_from_slice(&[53, 1, message_type]);
-    message[243..249].copy_from_slice(&[54, 4, 10, 0, 2, 2]);
-    message[249..255].copy_from_slice(&[51, 4, 0x00, 0x01, 0x51, 0x80]); // 86,400
-    message[255..261].copy_from_slice(&[1, 4, 255, 255, 255, 0]);
-    message[261..267].copy_from_slice(&[3, 4, 10, 0, 2, 2]);
-    message[267..273].copy_from_slice(&[6, 4, 10, 0, 2, 2]);
+    let rows = [
+        (54, gateway),
+        (51, lease.to_be_bytes()),
+        (1, mask),
+        (3, gateway),
+        (6, gateway),
+    ];
+    for (place, (code, value)) in (243..).step_by(6).zip(rows) {
+        message[place..place + 2].copy_from_slice(&[code, 4]);
+        message[place + 2..place + 6].copy_from_slice(&value);
+    }
     message[273] = 255;
-    let packet = ipv4(
-        id,
-        UDP,
-        GATEWAY_IP,
-        BROADCAST_IP,
-        &[],
-        &udp(68, 67, &message),
-    );
+    let target = broadcast(&record.network);
+    let datagram = udp(68, 67, &message);
+    let packet = ipv4(record.id, UDP, gateway, target, &[], &datagram);
     ethernet(GUEST_MAC, GATEWAY_MAC, 0x0800, &packet)
 }
 
 /// The frame of a ping's reply to a guest frame from `GUEST_MAC` and `GUEST_IP`.
 pub fn ping_reply(id: u16, rest: &[u8]) -> Vec<u8> {
-    let packet = ipv4(id, ICMP, GATEWAY_IP, GUEST_IP, &[], &echo(0, rest));
+    ping_reply_from(GATEWAY_IP, id, rest)
+}
+
+pub fn ping_reply_from(gateway: [u8; 4], id: u16, rest: &[u8]) -> Vec<u8> {
+    let packet = ipv4(id, ICMP, gateway, GUEST_IP, &[], &echo(0, rest));
     ethernet(GUEST_MAC, GATEWAY_MAC, 0x0800, &packet)
 }
 

@@ -1,10 +1,12 @@
-//! The binding and the library behind it, tested from outside. What is expected comes from document 01 (its names C1, P1, D0 and
-//! so on are used here), or is put together by `frames`, which uses nothing of the library.
+//! The binding and the library behind it, tested from outside. What is expected comes from documents 01 and 02 (01's names C1,
+//! P1, D0 and so on are used here), or is put together by `frames`, which calls nothing of the library.
 
 mod builders;
 mod checksum;
 mod frames;
 mod layout;
+mod making;
+mod networks;
 mod reader;
 mod reassembly;
 mod refusals;

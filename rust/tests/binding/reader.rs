@@ -3,7 +3,7 @@
 
 use std::thread;
 
-use yavoledu::{Guest, Layer, Reading, Verdict, read};
+use yavoledu::{Layer, Reading, Verdict, read};
 
 use crate::frames::*;
 
@@ -39,9 +39,7 @@ fn nothing_at_all() {
 fn arp_requests_and_replies() {
     let whole = layer(0, 14, 42);
     assert_read(&arp_request(), Reading::Arp { ethernet: whole });
-    let reply = arp(2, (GATEWAY_MAC, GATEWAY_IP), (GUEST_MAC, GUEST_IP));
-    let reply = ethernet(GUEST_MAC, GATEWAY_MAC, 0x0806, &reply);
-    assert_read(&reply, Reading::Arp { ethernet: whole });
+    assert_read(&arp_reply(GATEWAY_IP), Reading::Arp { ethernet: whole });
 
     let neither = arp(3, (GATEWAY_MAC, GATEWAY_IP), (GUEST_MAC, GUEST_IP));
     assert_eq!(
@@ -141,7 +139,7 @@ fn dhcp_of_a_client() {
 fn dhcp_of_the_gateway() {
     let mut reply = [0; 342];
     let request = from_dhcp_client(&dhcp_message(&[53, 1, 3, 255]));
-    let verdict = Guest::new(GUEST_MAC).send(&request, &mut reply);
+    let verdict = new_guest(GUEST_MAC).send(&request, &mut reply);
     assert_eq!(verdict, Verdict::Reply(342));
     let read_so = Reading::Dhcp {
         ethernet: layer(0, 14, 342),
@@ -196,7 +194,7 @@ fn other_ipv4() {
 fn a_padded_ping_is_answered_and_is_outside_the_grammar() {
     let padded = [ping(&PING), vec![0; 18]].concat();
     assert_eq!(read(&padded), None);
-    let verdict = Guest::new(GUEST_MAC).send(&padded, &mut [0; 100]);
+    let verdict = new_guest(GUEST_MAC).send(&padded, &mut [0; 100]);
     assert_eq!(verdict, Verdict::Reply(60));
 }
 

@@ -6,9 +6,9 @@ use crate::frames::*;
 
 fn guest() -> Guest {
     Guest {
-        mac: GUEST_MAC,
         id: 0xb1b2,
         xid: 0xc1c2_c3c4,
+        ..new_guest(GUEST_MAC)
     }
 }
 
@@ -65,10 +65,10 @@ fn a_cut_message_type_is_refused_whatever_the_room() {
 
 #[test]
 fn after_a_refusal_the_same_frame_gets_its_reply() {
-    let mut guest = Guest::new(GUEST_MAC);
+    let mut guest = new_guest(GUEST_MAC);
     let frame = from_dhcp_client(&dhcp_message(&DISCOVER));
     let mut reply = [0; 342];
     assert_eq!(guest.send(&frame, &mut reply[..341]), Verdict::NoRoom(342));
     assert_eq!(guest.send(&frame, &mut reply), Verdict::Reply(342));
-    assert_eq!(reply[..], dhcp_reply(1, GUEST_MAC, XID, 2));
+    assert_eq!(reply[..], dhcp_reply(&new_guest(GUEST_MAC), XID, 2));
 }

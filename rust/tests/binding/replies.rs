@@ -5,7 +5,7 @@ use yavoledu::{Guest, Verdict};
 use crate::frames::*;
 
 /// A new guest's reply, all of it. Behind it the buffer is as it was.
-fn reply_to(guest: &mut Guest, frame: &[u8]) -> Vec<u8> {
+pub fn reply_to(guest: &mut Guest, frame: &[u8]) -> Vec<u8> {
     let mut buffer = pattern(frame.len() + 342);
     let Verdict::Reply(n) = guest.send(frame, &mut buffer) else {
         panic!("no reply to {frame:02x?}");
@@ -23,14 +23,14 @@ fn bytes(hex: &str) -> Vec<u8> {
 
 #[test]
 fn a1() {
-    let mut guest = Guest::new(GUEST_MAC);
+    let mut guest = new_guest(GUEST_MAC);
     assert_eq!(
         reply_to(&mut guest, &arp_request()),
         bytes(
             "525400123456525400000001080600010800060400025254000000010a0002025254001234560a00020f"
         )
     );
-    assert_eq!(guest, Guest::new(GUEST_MAC));
+    assert_eq!(guest, new_guest(GUEST_MAC));
 }
 
 #[test]
@@ -45,14 +45,14 @@ fn an_arp_reply_goes_to_the_sender_in_the_request() {
     );
     let reply = arp(2, (GATEWAY_MAC, GATEWAY_IP), (mac, ip));
     assert_eq!(
-        reply_to(&mut Guest::new(GUEST_MAC), &frame),
+        reply_to(&mut new_guest(GUEST_MAC), &frame),
         ethernet(mac, GATEWAY_MAC, 0x0806, &reply)
     );
 }
 
 #[test]
 fn p1() {
-    let mut guest = Guest::new(GUEST_MAC);
+    let mut guest = new_guest(GUEST_MAC);
     let reply = reply_to(&mut guest, &ping(&PING));
     assert_eq!(reply, ping_reply(1, &PING));
     assert_eq!(reply[34..], bytes("0000fffd00010001"));
@@ -61,7 +61,7 @@ fn p1() {
         guest,
         Guest {
             id: 2,
-            ..Guest::new(GUEST_MAC)
+            ..new_guest(GUEST_MAC)
         }
     );
 }
@@ -70,7 +70,7 @@ fn p1() {
 fn each_ipv4_reply_carries_the_next_id_and_65535_is_followed_by_0() {
     let mut guest = Guest {
         id: 65_534,
-        ..Guest::new(GUEST_MAC)
+        ..new_guest(GUEST_MAC)
     };
     for id in [65_534, 65_535, 0, 1] {
         assert_eq!(guest.id, id);
@@ -87,14 +87,14 @@ fn a_ping_is_echoed_to_the_end_of_the_frame() {
     frame.extend_from_slice(b"padding");
     let rest = [&PING[..], b"padding"].concat();
     assert_eq!(
-        reply_to(&mut Guest::new(GUEST_MAC), &frame),
+        reply_to(&mut new_guest(GUEST_MAC), &frame),
         ping_reply(1, &rest)
     );
 }
 
 #[test]
 fn a_ping_of_every_short_length() {
-    let mut guest = Guest::new(GUEST_MAC);
+    let mut guest = new_guest(GUEST_MAC);
     for (id, len) in (1..).zip(4..=300) {
         let rest = pattern(len);
         assert_eq!(reply_to(&mut guest, &ping(&rest)), ping_reply(id, &rest));
@@ -108,7 +108,7 @@ fn a_header_of_4_bytes_makes_the_longest_reply_for_its_frame() {
     frame[14] = 0x41;
     frame[18] = 8;
     assert_eq!(frame.len(), 34);
-    let reply = reply_to(&mut Guest::new(GUEST_MAC), &frame);
+    let reply = reply_to(&mut new_guest(GUEST_MAC), &frame);
     assert_eq!(reply, ping_reply(1, &frame[22..]));
     assert_eq!(reply.len(), frame.len() + 16);
 }
@@ -119,7 +119,7 @@ fn the_longest_ping_is_echoed_whole() {
     let frame = ping(&rest);
     let mut guest = Guest {
         id: 0xfffe,
-        ..Guest::new(GUEST_MAC)
+        ..new_guest(GUEST_MAC)
     };
     let reply = reply_to(&mut guest, &frame);
     assert_eq!(reply.len(), 65_549);
@@ -129,17 +129,17 @@ fn the_longest_ping_is_echoed_whole() {
 
 #[test]
 fn d0_d1_an_offer() {
-    let mut guest = Guest::new(GUEST_MAC);
+    let mut guest = new_guest(GUEST_MAC);
     let reply = reply_to(&mut guest, &from_dhcp_client(&dhcp_message(&DISCOVER)));
     assert_eq!(reply[24..26], [0x20, 0xa4]);
     assert_eq!(reply[34..42], bytes("0044004301340000"));
-    assert_eq!(reply, dhcp_reply(1, GUEST_MAC, XID, 2));
+    assert_eq!(reply, dhcp_reply(&new_guest(GUEST_MAC), XID, 2));
     assert_eq!(
         guest,
         Guest {
-            mac: GUEST_MAC,
             id: 2,
-            xid: u32::from_be_bytes(XID)
+            xid: u32::from_be_bytes(XID),
+            ..new_guest(GUEST_MAC)
         }
     );
 }
@@ -148,13 +148,13 @@ fn d0_d1_an_offer() {
 fn d4_an_acknowledgement() {
     let frame = from_dhcp_client(&dhcp_message(&[0x35, 0x00, 0x35, 0x01, 0x03]));
     let record_mac = [0xa1, 0xa2, 0xa3, 0xa4, 0xa5, 0xa6];
-    let mut guest = Guest {
+    let guest = Guest {
         id: 0xb1b2,
-        ..Guest::new(record_mac)
+        ..new_guest(record_mac)
     };
     assert_eq!(
-        reply_to(&mut guest, &frame),
-        dhcp_reply(0xb1b2, record_mac, XID, 5)
+        reply_to(&mut guest.clone(), &frame),
+        dhcp_reply(&guest, XID, 5)
     );
 }
 
@@ -162,15 +162,15 @@ fn d4_an_acknowledgement() {
 fn d5_an_offer_though_the_option_overruns() {
     let frame = from_dhcp_client(&dhcp_message(&[0x00, 0x00, 0x35, 0x05, 0x01]));
     assert_eq!(
-        reply_to(&mut Guest::new(GUEST_MAC), &frame),
-        dhcp_reply(1, GUEST_MAC, XID, 2)
+        reply_to(&mut new_guest(GUEST_MAC), &frame),
+        dhcp_reply(&new_guest(GUEST_MAC), XID, 2)
     );
 }
 
 #[test]
 fn two_guests_have_ids_of_their_own() {
-    let mut first = Guest::new(GUEST_MAC);
-    let mut second = Guest::new([0xa1, 0xa2, 0xa3, 0xa4, 0xa5, 0xa6]);
+    let mut first = new_guest(GUEST_MAC);
+    let mut second = new_guest([0xa1, 0xa2, 0xa3, 0xa4, 0xa5, 0xa6]);
     reply_to(&mut first, &ping(&PING));
     reply_to(&mut first, &ping(&PING));
     assert_eq!(reply_to(&mut second, &ping(&PING)), ping_reply(1, &PING));

@@ -16,9 +16,9 @@ fn verdict(guest: &mut Guest, frame: &[u8]) -> Verdict {
 
 /// The verdict on a new guest's frame that leaves the record as it was.
 fn verdict_alone(frame: &[u8]) -> Verdict {
-    let mut guest = Guest::new(GUEST_MAC);
+    let mut guest = new_guest(GUEST_MAC);
     let verdict = verdict(&mut guest, frame);
-    assert_eq!(guest, Guest::new(GUEST_MAC));
+    assert_eq!(guest, new_guest(GUEST_MAC));
     verdict
 }
 
@@ -82,7 +82,7 @@ fn a_dhcp_message_that_is_no_request_is_dropped_and_its_xid_not_noted() {
 fn a_dhcp_request_without_an_answer_is_dropped_and_its_xid_noted() {
     let noted = Guest {
         xid: u32::from_be_bytes(XID),
-        ..Guest::new(GUEST_MAC)
+        ..new_guest(GUEST_MAC)
     };
     let d3: &[u8] = &[0x35];
     let d6: &[u8] = &[0x35, 0x00];
@@ -91,7 +91,7 @@ fn a_dhcp_request_without_an_answer_is_dropped_and_its_xid_noted() {
     let mut messages = [&[], d3, d6, d7, a_decline].map(dhcp_message).to_vec();
     messages.push(with_byte(dhcp_message(&DISCOVER), 239, 0x64)); // no cookie
     for message in messages {
-        let mut guest = Guest::new(GUEST_MAC);
+        let mut guest = new_guest(GUEST_MAC);
         assert_eq!(
             verdict(&mut guest, &from_dhcp_client(&message)),
             Verdict::Drop
