@@ -1,12 +1,12 @@
 -- The contracts leave one answer; what C is told is what `handle` and `read` answer, and nothing of it is lost.
 use Prim.Native.Nat.{ℕ, _+_}
 use mathlib.Core.List.{List, [], _∷_}
-use mathlib.Core.Path.{_≡_, refl, ap, sym, _∙_}
+use mathlib.Core.Path.{_≡_, refl, ap, sym, subst, _∙_}
 use lib.Dec.{eqb}
 use lib.ListN.{length, drop, getD}
 use Rattle.record.proofs.OneAnswer.{one-outcome, verdictOf}
 use Rattle.record.specs.Answer.{Meets, Outcome, Writing, paper}
-use Rattle.record.specs.Guest.{known}
+use Rattle.record.specs.Guest.{Settled, known}
 use Rattle.record.specs.Network.{document01}
 use mathlib.Core.Bool.{cond}
 use Rattle.record.specs.declared.answer.Answer.{Answer}
@@ -22,6 +22,7 @@ use Rattle.verdict_numbers.specs.Numbers.{padded}
 use Rattle.reader.specs.Reported.{reportOf}
 use Rattle.reader.specs.declared.parts.Reading.{Reading}
 use Rattle.reader.specs.declared.parts.Reading.the-variants.{Arp, Icmp, Udp, Dhcp, Tcp as Reading·Tcp, OtherIpv4, Outside}
+use Rattle.rules.proofs.Settled.{outcome-settled}
 use Rattle.rules.specs.Rules.{outcome}
 
 -- the verdict, back from the number and the values
@@ -104,3 +105,7 @@ pub tells-what-handle-answers : (o : Outcome) (before after after′ : List ℕ)
     → Meets o before after a → Sent o before after′ n vs g → (n ∷ vs ≡ padded (paper (a .verdict))) × (after′ ≡ after) × (g ≡ a .guest)
 tells-what-handle-answers o before after after′ a n vs g m s =
     (s .told .numbers ∙ ap padded (sym (m .wrote .numbers)), s .told .bytes ∙ sym (m .wrote .bytes), s .guest ∙ sym (m .guest))
+
+-- Whatever `yavoledu_send` tells, the record behind the reference keeps its MAC and its network.
+pub yavoledu-send-settled : (guest : Guest) (frame before after : List ℕ) (n : ℕ) (vs : List ℕ) (g : Guest) → Sent (outcome guest frame (length before)) before after n vs g → Settled guest g
+yavoledu-send-settled guest frame before after n vs g s = subst (Settled guest) (sym (s .guest)) (outcome-settled guest frame (length before))

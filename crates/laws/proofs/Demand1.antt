@@ -9,7 +9,7 @@ use lib.Dec.{ltb}
 use lib.ListN.{length, getD, take, drop}
 use lib.Seq.{take-append-seam, drop-append-seam}
 use Rattle.record.specs.Answer.{paper, Meets}
-use Rattle.record.specs.Guest.{Sized, spent}
+use Rattle.record.specs.Guest.{Settled, Sized, spent}
 use Rattle.record.specs.Network.{FourBytes}
 use Rattle.record.specs.declared.answer.Answer.{Answer}
 use Rattle.record.specs.declared.guest.Guest.{Guest}
@@ -24,12 +24,13 @@ use Rattle.record.specs.Guest.{noting}
 use Rattle.rules.specs.Seen.{Carries, CutMessage, Query, Outbound, EchoAsked, TooLongPing, Segment}
 use Rattle.rules.specs.declared.decision.Decision.{Decision}
 use Rattle.rules.specs.declared.decision.Decision.the-variants.{Drop, DropNoting, ArpReply, EchoReply, DhcpReply, Dns, Relay, Tcp, TooLong, CutType}
+use Rattle.rules.proofs.Settled.{outcome-settled}
 use Rattle.rules.proofs.Says.{Says, says, tcp-decided, echo-answered, too-long-decided}
 use Rattle.echo_reply.proofs.Echo.{length-echo}
 use Rattle.arp_reply.proofs.ReadBack.{arp-reads-back}
 use Rattle.echo_reply.proofs.ReadBack.{echo-frame-reads-back}
 use Rattle.dhcp_reply.proofs.FrameReadBack.{dhcp-reads-back}
-use Rattle.laws.specs.Table.{built, replyAtAmpleRoom, Returned, Settled, Unchanged, XidAtMost, kept, noted, AtMostXid, ReplyBytesIdXid, Changed}
+use Rattle.laws.specs.Table.{built, replyAtAmpleRoom, Returned, Unchanged, kept, noted, AtMostXid, ReplyBytesIdXid, Changed}
 use Rattle.base.proofs.Choice.{by-test}
 
 -- every answer has a number, and it is one of 0 to 7 (where there were none, this would read 8)
@@ -65,23 +66,9 @@ framed guest next need image before after answer e p m =
 pub still-sized : {guest next : Guest} → Settled guest next → Sized guest → Sized next
 still-sized s sized = record { mac = ap length (s .mac-kept) ∙ sized .mac; network = subst FourBytes (sym (s .network-kept)) (sized .network) }
 
-same-settled : {guest next : Guest} → next ≡ guest → Settled guest next
-same-settled e = record { mac-kept = ap (λ (x : Guest). x .mac) e; network-kept = ap (λ (x : Guest). x .network) e }
-
--- every row of the table leaves MAC and network alone
-always-settled : (frame : List ℕ) (guest next : Guest) (before after : List ℕ) (v : Verdict) → Changed frame v guest next before after → Settled guest next
-always-settled frame guest next before after Verdict.Drop c = go (c .kept-but-xid)
-  where
-    go : XidAtMost frame guest next → Settled guest next
-    go (kept e) = same-settled e
-    go (noted xid m e) = record { mac-kept = ap (λ (x : Guest). x .mac) e; network-kept = ap (λ (x : Guest). x .network) e }
-always-settled frame guest next before after (Verdict.Reply n) c = c .settled
-always-settled frame guest next before after (Verdict.Dns start len) c = same-settled (c .kept)
-always-settled frame guest next before after (Verdict.Relay start len) c = same-settled (c .kept)
-always-settled frame guest next before after (Verdict.Tcp len) c = same-settled (c .kept)
-always-settled frame guest next before after (Verdict.NoRoom needed) c = same-settled (c .kept)
-always-settled frame guest next before after (Verdict.TooLong len) c = same-settled (c .kept)
-always-settled frame guest next before after (Verdict.CutType place) c = same-settled (c .kept)
+-- whatever the answer, MAC and network are as they were
+pub settled : (guest : Guest) (frame before after : List ℕ) (answer : Answer) → Meets (outcome guest frame (length before)) before after answer → Settled guest (answer .guest)
+settled guest frame before after answer m = subst (Settled guest) (sym (m .guest)) (outcome-settled guest frame (length before))
 
 -- nothing is written
 record Quiet (v : Verdict) (next : Guest) (before after : List ℕ) (answer : Answer) : Type 0 where
@@ -255,10 +242,6 @@ module _ (guest : Guest) (frame before after : List ℕ) (answer : Answer) (size
   -- nothing has changed but what the table names: on 5, 6, 7 and on 2, 3, 4 nothing at all
   pub only-what-is-named : Changed frame (answer .verdict) guest (answer .guest) before after
   only-what-is-named = changed-by guest frame before after answer (decision its-network frame) (says its-network frame) it-came
-
-  -- whatever the answer, MAC and network are as they were
-  pub settled : Settled guest (answer .guest)
-  settled = always-settled frame guest (answer .guest) before after (answer .verdict) only-what-is-named
 
   -- the values returned are the table's
   pub returned-values : Returned guest frame before after (answer .verdict)

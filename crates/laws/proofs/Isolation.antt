@@ -56,7 +56,7 @@ once guest c o sized s t e =
     ∙ sym (sent-is guest (o .frame) (o .before) (o .after) (o .answer .verdict) (returned-values guest (o .frame) (o .before) (o .after) (o .answer) sized t)) in (
       λ i. record { answer = answer i; reply = reply i },
       g,
-      still-sized (settled guest (c .frame) (c .before) (c .after) (c .answer) sized s) sized,
+      still-sized (settled guest (c .frame) (c .before) (c .after) (c .answer) s) sized,
     )
 
 -- whatever the order of the calls and whatever the others send, a guest is served as if it were alone
@@ -77,8 +77,8 @@ pub others-do-not-matter : (host host₂ : ℕ → Guest) (calls calls₂ : List
 others-do-not-matter = Runs.others-do-not-matter Answered leftBy asked got Sized once whose
 
 -- A guest's network is the same behind any calls of any guests.
-pub network-stays : (host : ℕ → Guest) (calls : List Call) (who : ℕ) → Sized (host who) → Served host calls → recordsAfter host calls who .network ≡ host who .network
-network-stays host calls who sized served =
-    Runs.holds-throughout Answered leftBy (λ (g : Guest). Sized g × (g .network ≡ host who .network))
-    (λ g c h a. let s = settled g (c .frame) (c .before) (c .after) (c .answer) (h .0) a in (still-sized s (h .0), s .network-kept ∙ h .1))
-    whose host calls who (sized, refl) served .1
+pub network-stays : (host : ℕ → Guest) (calls : List Call) (who : ℕ) → Served host calls → recordsAfter host calls who .network ≡ host who .network
+network-stays host calls who served =
+    Runs.holds-throughout Answered leftBy (λ (g : Guest). g .network ≡ host who .network)
+    (λ g c h a. settled g (c .frame) (c .before) (c .after) (c .answer) a .network-kept ∙ h)
+    whose host calls who refl served

@@ -13,7 +13,7 @@ use Rattle.echo_reply.specs.Reply.{echoFrame}
 use Rattle.arp_reply.specs.Reply.{arpReply}
 use Rattle.dhcp_reply.specs.Reply.{dhcpFrame}
 use Rattle.rules.specs.Rules.{datagramData, decision}
-use Rattle.record.specs.Guest.{noting}
+use Rattle.record.specs.Guest.{Settled, noting}
 use Rattle.rules.specs.Seen.{Message, CutMessage, Query, Outbound, TooLongPing, Segment}
 use Rattle.rules.specs.declared.decision.Decision.{Decision}
 use Rattle.rules.specs.declared.decision.Decision.the-variants.{DropNoting, ArpReply, EchoReply, DhcpReply}
@@ -47,11 +47,6 @@ Returned guest frame before after (Tcp len) = Segment frame len
 Returned guest frame before after (NoRoom needed) = (needed ≡ length (replyAtAmpleRoom guest frame)) × (length before < needed)
 Returned guest frame before after (TooLong len) = TooLongPing (guest .network) frame len
 Returned guest frame before after (CutType place) = CutMessage frame place
-
--- what no answer changes
-pub record Settled (guest next : Guest) : Type 0 where
-  pub mac-kept : next .mac ≡ guest .mac
-  pub network-kept : next .network ≡ guest .network
 
 -- "nothing"
 pub record Unchanged (guest next : Guest) (before after : List ℕ) : Type 0 where

@@ -31,3 +31,8 @@ noting xid g = record { mac = g .mac; id = g .id; xid = xid; network = g .networ
 pub record Sized (guest : Guest) : Type 0 where
   pub mac : length (guest .mac) ≡ 6
   pub network : FourBytes (guest .network)
+
+-- what no call changes in a record
+pub record Settled (guest next : Guest) : Type 0 where
+  pub mac-kept : next .mac ≡ guest .mac
+  pub network-kept : next .network ≡ guest .network

@@ -3,3 +3,4 @@ pub mod Ping
 pub mod Datagram
 pub mod Says
 pub mod Room
+pub mod Settled
