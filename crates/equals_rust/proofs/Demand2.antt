@@ -39,7 +39,7 @@ pub new-is-fresh : (mac : List ℕ) → recordOf (new mac) ≡ fresh mac rustNet
 new-is-fresh mac = refl
 
 -- so is whatever `make` answers to document 01's addresses and a lease of 86,400 seconds by name
-pub made-is-new : (mac : List ℕ) (r : Making) → Makes mac (rustNetwork .gateway) (rustNetwork .guest) (rustNetwork .mask) (Named 86400) r
+pub made-is-new : (mac : List ℕ) (r : Making) → Makes mac (rustNetwork .gateway) (rustNetwork .guest) (rustNetwork .mask) (Named (rustNetwork .lease)) r
     → (r .answer ≡ Made) × (r .guest ≡ recordOf (new mac))
 made-is-new mac r m =
     let e = good-is-made m document01-good in

@@ -22,7 +22,7 @@ use Rattle.dhcp_reply.specs.Reply.{dhcpFrame, dhcpFrameTo}
 use Rattle.base.proofs.Lists.{all-bytes}
 use Rattle.options.specs.Rfc2132.{option, Walked, typed, cut, decides, walk}
 use Rattle.options.proofs.Places.{walkAt, past-end, at-255, at-0, at-last, at-other, at-type, at-cut}
-use Rattle.rules.proofs.Same.{both-left, both-right}
+use Rattle.base.proofs.Choice.{both-left, both-right}
 use Rattle.published.specs.Rust.{Run, gives, panics, Slice, whole, lenOf, zeros, store, copy, u32ToBe}
 use Rattle.published.specs.Frames.{«BCAST_MAC», «BCAST_IP», «GW_IP»}
 use Rattle.published.specs.Backend.{SlirpBackend, withXid, pushed}

@@ -20,7 +20,7 @@ use Rattle.rules.specs.Seen.{Carries}
 use Rattle.published.specs.Rust.{panics, cuts, whole}
 use Rattle.published.specs.Backend.{SlirpBackend}
 use Rattle.published.specs.Slirp.{send}
-use Rattle.rules.proofs.Same.{both-left, both-right}
+use Rattle.base.proofs.Choice.{both-left, both-right}
 use Rattle.equals_rust.specs.Alike.{recordOf}
 use Rattle.equals_rust.specs.Types.{Bytes, GuestTyped}
 use Rattle.equals_rust.specs.Smallest.{headerOf24, typeCutOff, pingOver}

@@ -1,5 +1,6 @@
 -- "A record is made by one call" (document 02, 1/13), and what comes of it.
 use Prim.Native.Nat.{ℕ}
+use mathlib.Core.Path.{_≡_}
 use mathlib.Core.List.{List, [], _∷_}
 use Rattle.record.specs.Guest.{fresh, known}
 use Rattle.record.specs.Network.{number}
@@ -39,8 +40,7 @@ unfoldable pub paper : Answer → List ℕ
 paper Made = 24 ∷ []
 paper BadRecord = 9 ∷ []
 
--- What comes of the call: a new guest's record exactly where its network is good, and else 9.
-pub data Makes (mac gateway guest mask : List ℕ) (lease : Lease) : Making → Type 0 where
-  made : GoodNetwork gateway guest mask
-      → Makes mac gateway guest mask lease (record { answer = Made; guest = fresh mac (networkOf gateway guest mask lease) })
-  refused : (GoodNetwork gateway guest mask → ⊥) → Makes mac gateway guest mask lease (record { answer = BadRecord; guest = nobody })
+-- What comes of the call: 24 and a new guest's record exactly where its network is good, and else 9.
+pub data Makes (mac gateway guest mask : List ℕ) (lease : Lease) (r : Making) : Type 0 where
+  made : GoodNetwork gateway guest mask → paper (r .answer) ≡ 24 ∷ [] → r .guest ≡ fresh mac (networkOf gateway guest mask lease) → Makes mac gateway guest mask lease r
+  refused : (GoodNetwork gateway guest mask → ⊥) → paper (r .answer) ≡ 9 ∷ [] → r .guest ≡ nobody → Makes mac gateway guest mask lease r

@@ -1,6 +1,7 @@
 -- When a call that builds answers 6, 5 and 1, and what each changes: on 6 and 5 neither the record nor one byte.
 use Prim.Native.Nat.{ℕ, _≤_, _<_}
 use mathlib.Core.Path.{_≡_, refl, ap, _∙_}
+use mathlib.Core.Bool.{Bool, true, false, cond}
 use mathlib.Core.List.{List, [], _∷_, _++_}
 use native.Mathlib.Omega.{arith}
 use borrow.Author.Tests.{ltb-true, ltb-false, lt-ltb, le-ltb}
@@ -8,7 +9,7 @@ use lib.ListN.{length, drop}
 use lib.Seq.{drop-append-seam}
 use lib.Dec.{ltb}
 use Rattle.record.specs.Answer.{paper, Wrote, Meets, building, spending}
-use Rattle.record.specs.Guest.{spent}
+use Rattle.record.specs.Guest.{Settled, spent}
 use Rattle.record.specs.declared.guest.Guest.{Guest}
 use Rattle.record.specs.declared.answer.Answer.{Answer}
 use Rattle.record.specs.declared.answer.Verdict.{Verdict}
@@ -94,3 +95,14 @@ module _ (limit len need room : ℕ) (image before after : List ℕ) where
     record-on-one k e =
         let c = on-one (a .verdict) written k e in
         simp (le-ltb limit len (c .0), le-ltb room need (c .1)) at (m .guest)
+
+-- and whatever a call that spends an id answers, MAC and network are as they were
+module _ (guest : Guest) (limit len need room : ℕ) (image : List ℕ) where
+  pub spending-settled : Settled guest (spending guest limit len need room image .guest)
+  unfolding spending
+  spending-settled = go (ltb limit len) (ltb room need)
+    where
+      go : (t u : Bool) → Settled guest (cond t guest (cond u guest (spent guest)))
+      go true u = record { mac-kept = refl; network-kept = refl }
+      go false true = record { mac-kept = refl; network-kept = refl }
+      go false false = record { mac-kept = refl; network-kept = refl }

@@ -9,14 +9,6 @@ use lib.ListN.{length, getD}
 use Rattle.base.proofs.Lists.{all-bytes}
 use Rattle.rules.specs.Same.{same}
 
-pub both-left : (x y : Bool) → (x && y) ≡ true → x ≡ true
-both-left true y e = refl
-both-left false y e = e
-
-pub both-right : (x y : Bool) → (x && y) ≡ true → y ≡ true
-both-right true y e = e
-both-right false y e = absurd (subst⁻¹ T e tt)
-
 pub same-equal : (s t : List ℕ) → same s t ≡ true → s ≡ t
 same-equal [] [] e = refl
 same-equal [] (b ∷ t) e = absurd (subst⁻¹ T e tt)

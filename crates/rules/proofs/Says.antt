@@ -22,7 +22,8 @@ use Rattle.rules.specs.Same.{same}
 use Rattle.rules.specs.Seen.{Carries, Datagram, Message, CutMessage, Handed, Query, Outbound, EchoAsked, TooLongPing, Segment}
 use Rattle.rules.specs.declared.decision.Decision.{Decision}
 use Rattle.rules.specs.declared.decision.Decision.the-variants.{Drop, DropNoting, ArpReply, EchoReply, DhcpReply, Dns, Relay, Tcp, TooLong, CutType}
-use Rattle.rules.proofs.Same.{both-left, both-right, same-equal, equal-same}
+use Rattle.base.proofs.Choice.{both-left, both-right}
+use Rattle.rules.proofs.Same.{same-equal, equal-same}
 
 unfoldable pub Says : Network → (frame : List ℕ) → Decision → Type 0
 Says net frame Drop = Unit

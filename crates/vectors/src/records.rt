@@ -1,4 +1,6 @@
 // The network of lines that name none, and whether two records are the same in every field.
+ghost use mathlib.Core.Bool.{true};
+ghost use mathlib.Core.Logic.{_↔_};
 ghost use mathlib.Core.Path.{_≡_};
 ghost use Rattle.record.specs.Network.{document01};
 use check::same;
@@ -19,7 +21,9 @@ pub fn network() -> Network
     NETWORK
 }
 
-pub fn same_record(a: Guest, b: Guest) -> bool {
+pub fn same_record(a: Guest, b: Guest) -> bool
+    ensures { λ r. ⌜ (r ≡ true) ↔ (a ≡ b) ⌝ }
+{
     let mac = a.mac;
     let other_mac = b.mac;
     let network = a.network;
@@ -30,7 +34,9 @@ pub fn same_record(a: Guest, b: Guest) -> bool {
         & same_network(network, other_network)
 }
 
-pub fn same_network(a: Network, b: Network) -> bool {
+pub fn same_network(a: Network, b: Network) -> bool
+    ensures { λ r. ⌜ (r ≡ true) ↔ (a ≡ b) ⌝ }
+{
     let gateway = a.gateway;
     let other_gateway = b.gateway;
     let guest = a.guest;
