@@ -158,6 +158,25 @@ fn plan(fields: &[u8; FIELDS]) -> Option<Plan> {
     (which % 5 == 4).then_some(plan)
 }
 
+/// The fields of a record to be made, changed so that chance would take long to: one address is the other, or at an edge of
+/// its network, or the mask is a prefix's.
+fn at_an_edge(mut fields: [u8; FIELDS], draws: &mut Draws) -> [u8; FIELDS] {
+    let number = |at: usize| u32::from_be_bytes(array(&mut &fields[at..]));
+    let (gateway_at, guest_at, mask_at) = (8, 12, 16);
+    let (gateway, guest, mask) = (number(gateway_at), number(guest_at), number(mask_at));
+    let prefix = (u64::MAX << draws.below(33)) as u32;
+    let (at, changed) = draws.one_of(&[
+        (guest_at, gateway),
+        (guest_at, guest & mask),
+        (guest_at, guest | !mask),
+        (gateway_at, gateway & mask),
+        (gateway_at, gateway | !mask),
+        (mask_at, prefix),
+    ]);
+    fields[at..at + 4].copy_from_slice(&changed.to_be_bytes());
+    fields
+}
+
 fn builder(fields: &[u8; FIELDS]) -> Builder {
     let rest = &mut &fields[..];
     let [which, proto_or_flags] = array(rest);
@@ -250,6 +269,9 @@ impl Input {
                 item.how |= LONG | draws.one_of(&[0, LENGTHS_MADE_RIGHT]);
                 item.long = Some(long);
             }
+            3 if item.fields.as_ref().and_then(plan).is_some() => {
+                item.fields = item.fields.map(|fields| at_an_edge(fields, draws));
+            }
             3 | 4 => {
                 let mutated = |fields: [u8; FIELDS]| array(&mut &mutate(&fields, FIELDS)[..]);
                 item.fields = item.fields.map(mutated);
@@ -281,7 +303,7 @@ impl Input {
 }
 
 /// Inputs to start from, with names: the frames that real software sent, each alone; and simple ones, which are a frame of
-/// each kind in a row, on two networks, long pings, a call of each builder, and a record made.
+/// each kind in a row, on two networks, long pings, a call of each builder, and records made.
 pub fn seeds() -> Vec<(String, Vec<u8>)> {
     let frame = |bytes: Vec<u8>| Item {
         bytes,
@@ -318,24 +340,20 @@ pub fn seeds() -> Vec<(String, Vec<u8>)> {
             long: None,
         }
     });
-    let mask_and_lease = [255, 255, 255, 0, 0, 1, 0x51, 0x80, 0, 0, 0, 0];
-    let made = [
-        &[4, 1],
-        &GUEST_MAC[..],
-        &GATEWAY_IP,
-        &GUEST_IP,
-        &mask_and_lease,
-    ]
-    .concat();
-    let record = Item {
-        how: WITH_FIELDS,
-        fields: Some(array(&mut &made[..])),
-        ..Item::default()
-    };
+    let records = [0, 1].map(|lease_named| {
+        let mask_and_lease = [255, 255, 255, 0, 0, 0, 7, 8];
+        let start = [&[4, lease_named], &GUEST_MAC[..], &GATEWAY_IP, &GUEST_IP].concat();
+        let fields = [start, mask_and_lease.to_vec()].concat();
+        Item {
+            how: WITH_FIELDS,
+            fields: Some(array(&mut &fields[..])),
+            ..Item::default()
+        }
+    });
     let alone = long_pings
         .into_iter()
         .chain(builders)
-        .chain([record])
+        .chain(records)
         .map(|item| vec![item]);
     let simple: Vec<_> = [in_a_row].into_iter().chain(alone).collect();
     // The Rust's network, or one with its gateway and nothing else of it.
