@@ -6,6 +6,7 @@ use mathlib.Core.List.{List, [], _∷_}
 use borrow.Author.Tests.{eq-eqb, ne-eqb, eqb-true}
 use lib.Dec.{T, eqb}
 use lib.ListN.{length, getD}
+use Rattle.base.proofs.Choice.{both-left, both-right}
 use Rattle.base.proofs.Lists.{all-bytes}
 use Rattle.rules.specs.Same.{same}
 

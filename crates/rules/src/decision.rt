@@ -1,4 +1,4 @@
-// Document 01's tests on a guest frame, in its order. Nothing here looks at the record or at the room.
+// Document 01's tests on a guest frame, in its order. Of the record they see the network alone, and nothing of the room.
 ghost use mathlib.Core.Path.{_≡_};
 ghost use mathlib.Core.Bool.{_&&_, cond};
 ghost use Prim.Native.Nat.{_-_, _≤_};
