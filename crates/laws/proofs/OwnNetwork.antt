@@ -9,7 +9,7 @@ use native.Mathlib.Omega.{arith}
 use lib.ListN.{length, getD}
 use Rattle.base.proofs.Lists.{all-bytes}
 use Rattle.base.specs.Bytes.{be16, bytesAt}
-use Rattle.record.specs.Guest.{Sized}
+use Rattle.record.specs.Guest.{Sized, known}
 use Rattle.record.specs.Network.{FourBytes}
 use Rattle.record.specs.declared.guest.Guest.{Guest}
 use Rattle.record.specs.declared.network.Network.{Network}
@@ -67,7 +67,7 @@ module _ (P : Network → List ℕ → Network → Type 0) (net : Network) (mac 
 -- DHCP: one message from two records that differ in their networks alone
 module _ (id xid : ℕ) (frame : List ℕ) (xid′ type : ℕ) where
   abbrev of : Network → List ℕ → Guest
-  of net mac = record { mac = mac; id = id; xid = xid; network = net }
+  of net mac = known mac id xid net
 
   Lease : Network → List ℕ → Network → Type 0
   Lease net mac net′ = DifferAt (dhcpPlaces (of net mac)) (dhcpPlaces (of net′ mac)) (dhcpFrame (of net mac) frame xid′ type) (dhcpFrame (of net′ mac) frame xid′ type)

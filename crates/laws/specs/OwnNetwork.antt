@@ -11,6 +11,7 @@ use Rattle.wire.specs.Rfc791.{headerWith, sourceOf}
 use Rattle.wire.specs.Rfc826 as Arp
 use Rattle.wire.specs.Rfc894.{body, sourceMac}
 use Rattle.sums.specs.Rfc1071.{checksum}
+use Rattle.record.specs.Guest.{known}
 use Rattle.record.specs.Network.{broadcastOf}
 use Rattle.record.specs.declared.guest.Guest.{Guest}
 use Rattle.record.specs.declared.network.Network.{Network}
@@ -74,7 +75,7 @@ dhcpPlaces guest =
 
 -- the same record on another network
 abbrev pub onNetwork : Network → Guest → Guest
-onNetwork net guest = record { mac = guest .mac; id = guest .id; xid = guest .xid; network = net }
+onNetwork net guest = known (guest .mac) (guest .id) (guest .xid) net
 
 -- one ARP request, sent twice: nothing that the reply takes from it differs
 pub record SameRequest (frame frame′ : List ℕ) : Type 0 where
