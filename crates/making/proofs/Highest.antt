@@ -7,7 +7,7 @@ use lib.Pow.{pow-pos, pow-mono, ones-lt, split, high}
 use Rattle.base.specs.Bytes.{be32}
 use Rattle.record.specs.Network.{broadcast, broadcastOf, number}
 use Rattle.record.specs.declared.network.Network.{Network}
-use Rattle.making.specs.Good.{size, Good, Highest}
+use Rattle.good_network.specs.Good.{size, Good, Highest}
 use Rattle.making.specs.Making.{GoodNetwork}
 
 -- `a` with its last k bits set

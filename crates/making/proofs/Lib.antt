@@ -1,4 +1,3 @@
-pub mod Masks
 pub mod Exactly
 pub mod Stored
 pub mod Highest

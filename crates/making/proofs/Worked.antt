@@ -8,9 +8,9 @@ use borrow.Author.Tests.{eqb-false}
 use lib.Count.{leadingZeros}
 use lib.Dec.{eqb}
 use Rattle.record.specs.Network.{document01, number}
-use Rattle.making.specs.Good.{Between, Good, size}
+use Rattle.good_network.specs.Good.{Between, Good, size}
 use Rattle.making.specs.Making.{GoodNetwork}
-use Rattle.making.proofs.Masks.{leading-are}
+use Rattle.good_network.proofs.Masks.{leading-are}
 
 -- a place that is neither, by computation
 between : (place highest : ℕ) → eqb place 0 ≡ false → eqb place highest ≡ false → Between place highest

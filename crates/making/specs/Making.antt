@@ -6,7 +6,7 @@ use Rattle.record.specs.Guest.{fresh, known}
 use Rattle.record.specs.Network.{number}
 use Rattle.record.specs.declared.guest.Guest.{Guest}
 use Rattle.record.specs.declared.network.Network.{Network}
-use Rattle.making.specs.Good.{Good}
+use Rattle.good_network.specs.Good.{Good}
 use Rattle.making.specs.declared.answer.Answer.{Answer}
 use Rattle.making.specs.declared.answer.Answer.the-variants.{Made, BadRecord}
 use Rattle.making.specs.declared.answer.Lease.{Lease}

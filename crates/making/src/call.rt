@@ -4,7 +4,7 @@ ghost use Rattle.making.specs.Making.{Makes, leaseOf, nobody};
 use crate::answer::Answer;
 use crate::answer::Lease;
 use crate::answer::Making;
-use crate::network::is_good;
+use good_network::is_good;
 use record::Guest;
 use record::Network;
 use wire::bytes::u32be;

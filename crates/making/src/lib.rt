@@ -2,7 +2,6 @@
 // by its caller.
 mod answer;
 mod call;
-mod network;
 mod over;
 
 pub use answer::Answer;

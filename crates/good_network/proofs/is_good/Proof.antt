@@ -5,10 +5,10 @@ use mathlib.Core.Path.{_≡_, sym, _∙_}
 use borrow.Author.Needs.{needs}
 use lib.Count.{ones}
 use Rattle.base.proofs.Telling.{tells-not, tells-yes}
-use Rattle.making.specs.Good.{size}
-use Rattle.making.proofs.Masks.{found, ones-are, leading-are, share-to, share-of, between-to, between-of}
-use Rattle.making.proofs.network.is_good.Statement.{statement}
-use Rattle.making.proofs.network.is_good.Tie as tie
+use Rattle.good_network.specs.Good.{size}
+use Rattle.good_network.proofs.Masks.{found, ones-are, leading-are, share-to, share-of, between-to, between-of}
+use Rattle.good_network.proofs.is_good.Statement.{statement}
+use Rattle.good_network.proofs.is_good.Tie as tie
 
 returns : tie.Need-returns
 returns c = λ g. c .if1 .taken (ones-are (g .contiguous) (g .most) ∙ sym (leading-are (g .contiguous) (g .most)))

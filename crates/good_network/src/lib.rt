@@ -1,6 +1,6 @@
-// What makes a network good, test by test.
+// Whether a network is good, test by test. Nothing relies on checks by its caller.
 ghost use Rattle.base.specs.Tells.{Tells};
-ghost use Rattle.making.specs.Good.{Good, Between};
+ghost use Rattle.good_network.specs.Good.{Good, Between};
 
 // "from 8 to 30"
 const SHORTEST_PREFIX: u32 = 8;

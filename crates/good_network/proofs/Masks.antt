@@ -8,7 +8,7 @@ use lib.Arith.{bin-ind}
 use lib.Bits.{bitAnd, and-mask, and-high}
 use lib.Count.{ones, ones-step, ones-cat, ones-ones, leadingZeros, leading-length, leading-unique}
 use lib.Pow.{pow-pos, pow-mono, ones-lt, high-ones, shr-mod, shl-shr}
-use Rattle.making.specs.Good.{size, Between}
+use Rattle.good_network.specs.Good.{size, Between}
 
 -- no digit is set in 0 alone
 no-ones : (n : ℕ) → ones n ≡ 0 → n ≡ 0

@@ -1,6 +1,6 @@
 -- `is_between` meets its contract: the two tests are its two facts.
-use Rattle.making.proofs.network.is_between.Statement.{statement}
-use Rattle.making.proofs.network.is_between.Tie as tie
+use Rattle.good_network.proofs.is_between.Statement.{statement}
+use Rattle.good_network.proofs.is_between.Tie as tie
 
 returns : tie.Need-returns
 returns c = λ b. b .not-lowest (c .if1 .taken)
