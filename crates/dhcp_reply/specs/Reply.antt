@@ -1,4 +1,4 @@
--- The frame around a DHCP reply, as document 01 has it.
+-- The frame around a DHCP reply, as document 01 has it and document 02 amends it.
 use Prim.Native.Nat.{ℕ}
 use mathlib.Core.List.{List}
 use Rattle.dhcp_message.specs.Message.{reply}
@@ -9,12 +9,12 @@ use Rattle.record.specs.declared.network.Network.{Network}
 use Rattle.wire.specs.Rfc768.{datagram}
 use Rattle.wire.specs.Rfc894.{sourceMac}
 
--- "UDP source 68, destination 67, as in the Rust"
+-- Document 02, 2/13: "RFC 2131 has the server send from 67 to 68, while the Rust and document 01 have it the other way round. The reply's UDP header becomes 00 43 00 44."
 abbrev pub replySource : ℕ
-replySource = 68
+replySource = 67
 
 abbrev pub replyTarget : ℕ
-replyTarget = 67
+replyTarget = 68
 
 -- the frame around it, to this MAC: "record's MAC at 28", to the network's broadcast address
 unfoldable pub dhcpFrameTo : Network → (mac : List ℕ) (id : ℕ) (to : List ℕ) (xid type : ℕ) → List ℕ

@@ -12,10 +12,10 @@ use wire::ethernet;
 use wire::ipv4;
 use wire::udp;
 
-// As in the Rust, from the client's port to the server's.
-const REPLY_SOURCE: u16 = udp::DHCP_CLIENT;
+// RFC 2131, section 4.1: from the server's port to the client's. The Rust has them the other way round (docs/DIFFERENCES.md).
+const REPLY_SOURCE: u16 = udp::DHCP_SERVER;
 
-const REPLY_TARGET: u16 = udp::DHCP_SERVER;
+const REPLY_TARGET: u16 = udp::DHCP_CLIENT;
 
 const DATAGRAM_AT: usize = ethernet::HEADER + ipv4::HEADER;
 

@@ -1,12 +1,13 @@
 -- A DHCP reply in its frame is derived by the grammar: its list is taken apart option by option, and the rest is read back.
 use Prim.Native.Nat.{ℕ, _+_, _≤_}
 use mathlib.Core.Path.{_≡_, refl, ap, sym, subst, _∙_}
-use mathlib.Core.Logic.{inr}
+use mathlib.Core.Logic.{inl, inr}
 use mathlib.Core.List.{List, [], _∷_, _++_}
 use native.Mathlib.Omega.{arith}
 use lib.ListN.{length, getD, drop, replicate}
 use lib.Seq.{drop-drop}
 use Rattle.dhcp_message.specs.Message.{reply}
+use Rattle.dhcp_reply.specs.Reply.{replySource, replyTarget}
 use Rattle.record.specs.Network.{FourBytes}
 use Rattle.dhcp_message.proofs.ReadBack.{reply-reads-back}
 use Rattle.base.specs.Bytes.{be32, u8At}
@@ -80,7 +81,7 @@ module _ (net : Network) (mac : List ℕ) (xid type : ℕ) (four : FourBytes net
       }
 
   -- its frame
-  pub dhcp-derived : (frame : List ℕ) (n : ℕ) (source target : List ℕ) → Packet frame n 17 source target (datagram 68 67 (reply net mac xid type)) → 1 ≤ type → type ≤ 8
+  pub dhcp-derived : (frame : List ℕ) (n : ℕ) (source target : List ℕ) → Packet frame n 17 source target (datagram replySource replyTarget (reply net mac xid type)) → 1 ≤ type → type ≤ 8
       → DerivedAs n frame (DhcpReply xid type)
   unfolding Derives partsOf options53 datagram
   dhcp-derived frame n source target p least most =
@@ -88,13 +89,13 @@ module _ (net : Network) (mac : List ℕ) (xid type : ℕ) (four : FourBytes net
       let r = reply-reads-back net mac xid type four six in
       let inner : drop 42 frame ≡ m = sym (drop-drop 8 34 frame) ∙ ap (drop 8) (p .behind) in
       let t : u8At frame 284 ≡ type = payload-byte p 250 ∙ ap (λ (s : List ℕ). getD s 2 0) (r .type-is) in
-      let ports : CarriesDHCP (body frame) = rw (p .payload-is) (inr (refl, refl)) in
+      let ports : CarriesDHCP (body frame) = rw (p .payload-is) (inl (refl, refl)) in
       let at : dataAt frame ≡ 42 = omega (arith, p .payload-at) in
-      let stop : n ≡ 42 + length (drop 42 frame) = omega (arith, p .long, r .long, length-datagram 68 67 m, ap length inner) in (
+      let stop : n ≡ 42 + length (drop 42 frame) = omega (arith, p .long, r .long, length-datagram replySource replyTarget m, ap length inner) in (
         (
           p .ethernet,
           p .ip,
-          datagram-derived frame n source target 68 67 m p,
+          datagram-derived frame n source target replySource replyTarget m p,
           p .ethernet-placed,
           p .ip-placed,
           payload-placed p 8 42 refl,

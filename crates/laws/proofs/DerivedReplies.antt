@@ -15,7 +15,7 @@ use Rattle.record.specs.declared.guest.Guest.{Guest}
 use Rattle.record.specs.declared.network.Network.{Network}
 use Rattle.grammar.specs.Grammar.{Derivation, Derives}
 use Rattle.wire.specs.Rfc792.{echo}
-use Rattle.dhcp_reply.specs.Reply.{dhcpFrameTo}
+use Rattle.dhcp_reply.specs.Reply.{replySource, replyTarget, dhcpFrameTo}
 use Rattle.rules.specs.Rules.{decision}
 use Rattle.rules.specs.declared.decision.Decision.{Decision}
 use Rattle.rules.specs.declared.decision.Decision.the-variants.{Drop, DropNoting, ArpReply, EchoReply, DhcpReply, Dns, Relay, Tcp, TooLong, CutType}
@@ -45,7 +45,7 @@ module _ (guest : Guest) (frame : List ℕ) (sized : Sized guest) where
   derived-as (DhcpReply xid type) s n e p =
       let t = among-8 type (s .1) in
       dhcp-derived net (guest .mac) xid type (sized .network) (sized .mac) _ n (net .gateway) (broadcastOf net)
-      (packet (sourceMac frame) (net .gateway) (broadcastOf net) (datagram 68 67 (reply net (guest .mac) xid type)) (guest .id) 17 refl (sized .network .gateway) refl n e)
+      (packet (sourceMac frame) (net .gateway) (broadcastOf net) (datagram replySource replyTarget (reply net (guest .mac) xid type)) (guest .id) 17 refl (sized .network .gateway) refl n e)
       (t .0) (t .1)
   derived-as Drop s n e p = omega arith
   derived-as (DropNoting xid) s n e p = omega arith

@@ -1,4 +1,4 @@
--- The marked cases of document 01 ("Bytes to check"), in one table, and what it means that a row holds; behind them the cases that are not marked. The replies' bytes were taken from the published Rust;
+-- The marked cases of document 01 ("Bytes to check"), in one table, and what it means that a row holds; behind them the cases that are not marked. The replies' bytes were taken from the published Rust, but for the ports of D0, which document 02 (2/13) amends;
 -- `replay` has the same calls among its lines. A row is about the definitions that the contract of `handle` cites; that an answer is the row's follows (`answered-as-in-the-row`).
 use Prim.Native.Nat.{ℕ, _+_, _-_}
 use mathlib.Core.Path.{_≡_}
@@ -68,7 +68,7 @@ abbrev pub dhcpReply : (type : ℕ) → List ℕ
 dhcpReply type =
     (0x02 ∷ 0x00 ∷ 0x00 ∷ 0x00 ∷ 0x00 ∷ 0x0b ∷ 0x52 ∷ 0x54 ∷ 0x00 ∷ 0x00 ∷ 0x00 ∷ 0x01 ∷ 0x08 ∷ 0x00 ∷ [])
     ++ (0x45 ∷ 0x00 ∷ 0x01 ∷ 0x48 ∷ 0x00 ∷ 0x01 ∷ 0x40 ∷ 0x00 ∷ 0x40 ∷ 0x11 ∷ 0x20 ∷ 0xa4 ∷ 0x0a ∷ 0x00 ∷ 0x02 ∷ 0x02 ∷ 0x0a ∷ 0x00 ∷ 0x02 ∷ 0xff ∷ [])  -- D0: IPv4, with its checksum 0x20a4
-    ++ (0x00 ∷ 0x44 ∷ 0x00 ∷ 0x43 ∷ 0x01 ∷ 0x34 ∷ 0x00 ∷ 0x00 ∷ [])  -- D0: UDP
+    ++ (0x00 ∷ 0x43 ∷ 0x00 ∷ 0x44 ∷ 0x01 ∷ 0x34 ∷ 0x00 ∷ 0x00 ∷ [])  -- D0, amended by document 02, 2/13: UDP, from 67 to 68
     ++ (0x02 ∷ 0x01 ∷ 0x06 ∷ 0x00 ∷ 0x11 ∷ 0x22 ∷ 0x33 ∷ 0x44 ∷ []) ++ replicate 8 0
     ++ (0x0a ∷ 0x00 ∷ 0x02 ∷ 0x0f ∷ 0x0a ∷ 0x00 ∷ 0x02 ∷ 0x02 ∷ 0x00 ∷ 0x00 ∷ 0x00 ∷ 0x00 ∷ [])
     ++ (0x52 ∷ 0x54 ∷ 0x00 ∷ 0x12 ∷ 0x34 ∷ 0x56 ∷ []) ++ replicate 202 0
