@@ -2,11 +2,12 @@
 use Prim.Native.Nat.{ℕ, zero, suc, _+_, _≤_, _<_, _-_}
 use mathlib.Core.Path.{_≡_, refl, ap, ap₂, sym, _∙_}
 use mathlib.Core.List.{List, _∷_, _++_, append-assoc, append-nil}
+use native.Mathlib.Decide.{decLt}
 use native.Mathlib.Omega.{arith}
 use borrow.Author.Tests.{le-leb, lt-leb}
-use lib.ListN.{length, getD, take, drop, length-append, length-take, length-drop, drop-of-length-le, take-append-drop}
+use lib.ListN.{length, getD, take, drop, length-append, length-take, length-drop, drop-of-length-le, take-append-drop, List·getD-append}
 use native.Mathlib.Nat.{add-assoc, zero-add, le-of-eq}
-use lib.Seq.{drop-cons, take-all, take-length, drop-drop, take-at, drop-at, length-take-le, take-append-seam}
+use lib.Seq.{drop-cons, take-all, take-length, drop-drop, take-at, drop-at, length-take-le, take-append-seam, getD-append-add, getD-take, getD-drop}
 use Rattle.base.specs.Bytes.{part, bytesAt}
 use Rattle.base.specs.Buffer.{put, putIfFits}
 
@@ -42,6 +43,33 @@ module _ (at : ℕ) (s b : List ℕ) (fits : at + length s ≤ length b) where
   pub drop-put : drop (at + length s) (put at s b) ≡ drop (at + length s) b
   unfolding put
   drop-put = drop-at (take at b ++ s) _ _ length-front
+
+  -- a byte of the piece
+  pub byte-put : (place : ℕ) → at ≤ place → place < at + length s → getD (put at s b) place 0 ≡ getD s (place - at) 0
+  unfolding put
+  byte-put place l u =
+      let here : place ≡ length (take at b) + (place - at) = omega (arith, length-take-le at b (omega arith)) in
+      List·getD-append (take at b ++ s) _ 0 place (omega (arith, length-front))
+      ∙ ap (λ (k : ℕ). getD (take at b ++ s) k 0) here
+      ∙ getD-append-add (take at b) s (place - at) 0
+
+  -- a byte beside it
+  pub byte-beside : (place : ℕ) → (at ≤ place → at + length s ≤ place) → getD (put at s b) place 0 ≡ getD b place 0
+  unfolding put
+  byte-beside place out = go (decLt place at)
+    where
+      go : Dec (place < at) → getD (take at b ++ s ++ drop (at + length s) b) place 0 ≡ getD b place 0
+      go (yes h) =
+          List·getD-append (take at b ++ s) _ 0 place (omega (arith, length-front))
+          ∙ List·getD-append (take at b) s 0 place (omega (arith, length-take-le at b (omega arith)))
+          ∙ getD-take at b place 0 h
+      go (no h) =
+          let behind : at + length s ≤ place = out (omega arith) in
+          let here : place ≡ length (take at b ++ s) + (place - (at + length s)) = omega (arith, length-front) in
+          ap (λ (k : ℕ). getD (take at b ++ s ++ drop (at + length s) b) k 0) here
+          ∙ getD-append-add (take at b ++ s) _ (place - (at + length s)) 0
+          ∙ getD-drop (at + length s) b (place - (at + length s)) 0
+          ∙ ap (λ (k : ℕ). getD b k 0) (omega arith)
 
 -- what a copy into the rest of a buffer from `at` on leaves in the whole of it
 pub copied : (at : ℕ) (s b rest : List ℕ) → at ≤ length b

@@ -1,5 +1,5 @@
 -- Demand 2 of the gateway: "On every frame where the Rust shown doesn't panic or cut a length to 16 bits, and the buffer has room for the reply, the verdict and reply bytes, and the record after a
--- drop or reply, equal the Rust's from the same IP id, xid and guest MAC." The Rust is crate `published`: a build without overflow checks. `recordOf` a backend is the record with its id, xid and MAC,
+-- drop or reply, equal the Rust's from the same IP id, xid and guest MAC, but where a request of document 02 says otherwise." It says so of the ports of a DHCP reply (`amended`). The Rust is crate `published`: a build without overflow checks. `recordOf` a backend is the record with its id, xid and MAC,
 -- on the network of the Rust's text. (Document 02, 1/13: "Demand 2 compares with the Rust for the record of 01's values and with the written definition for every other": the latter is `handle`'s contract.)
 use Prim.Native.Nat.{ℕ, _≤_, _<_}
 use mathlib.Core.Path.{_≡_, refl, ap, sym, subst}
@@ -23,8 +23,9 @@ use Rattle.published.specs.Backend.{SlirpBackend}
 use Rattle.published.specs.Slirp.{send, new}
 use Rattle.rules.specs.Rules.{payload, outcome, outcomeOf}
 use Rattle.record.specs.Answer.{unwritten}
-use Rattle.rules.specs.Seen.{CutMessage}
+use Rattle.rules.specs.Seen.{Message, CutMessage}
 use Rattle.equals_rust.specs.Alike.{recordOf, added, cameOf, Keeps, AllHandedOver}
+use Rattle.equals_rust.specs.Amended.{amendedIn, Excepted}
 use Rattle.equals_rust.specs.Types.{Bytes, GuestTyped}
 use Rattle.equals_rust.specs.Where.{HeaderPast, TypeCut, PingOver}
 use Rattle.equals_rust.proofs.Foretold.{AtPanic, Foretells, foretells}
@@ -92,20 +93,38 @@ module _ (self : SlirpBackend) (frame : List ℕ) (typed : GuestTyped (recordOf 
   pub rust-hands-over : (b : SlirpBackend) → send self (whole frame) ≡ gives b → AllHandedOver frame (added (self .calls) (b .calls))
   rust-hands-over b e = at-end 0 (gives b) e .1
 
+  -- Document 02, 2/13, is all that is amended: either nothing is, or the frame is a client's DHCP message and the Rust's reply to it goes from 68 to 67
+  pub exactly-the-ports : (b : SlirpBackend) → send self (whole frame) ≡ gives b → Excepted frame (cameOf self b)
+  exactly-the-ports b e = at-end 0 (gives b) e .2
+
+  pub amends-dhcp-alone : ((xid : ℕ) → Message frame xid → ⊥) → (b : SlirpBackend) → send self (whole frame) ≡ gives b → amendedIn (cameOf self b) ≡ cameOf self b
+  amends-dhcp-alone no-dhcp b e = go (exactly-the-ports b e)
+    where
+      go : Excepted frame (cameOf self b) → amendedIn (cameOf self b) ≡ cameOf self b
+      go (inl kept) = kept
+      go (inr turned) = absurd (no-dhcp (turned .asked .0) (turned .asked .1))
+
   -- Whatever answers a call with any buffer as `handle` promises: `m` is what it ensures (crates/slirp/src/entry.rt).
   module _ (before after : List ℕ) (answer : Answer) (m : Meets (outcome (recordOf self) frame (length before)) before after answer) where
     meets : (o : Outcome) → outcome (recordOf self) frame (length before) ≡ o → Meets o before after answer
     meets o e = subst (λ (x : Outcome). Meets x before after answer) e m
 
-    -- Where the Rust gives, and the buffer has room for the reply: the same verdict and values, the same reply bytes, and after a drop or a reply the same record.
+    -- Where the Rust gives, and the buffer has room for the reply: the same verdict and values, the same reply bytes but for the ports of a DHCP reply, and after a drop or a reply the same record.
     -- (After a call of what is outside it is the record up to that call: `relay_datagram` can take ids at once.)
-    pub handle-equals-the-rust : (b : SlirpBackend) → send self (whole frame) ≡ gives b → length (cameOf self b .writing .image) ≤ length before → Meets (cameOf self b) before after answer
-    handle-equals-the-rust b e room = meets (cameOf self b) (at-end (length before) (gives b) e .2 .0 room)
+    pub handle-equals-the-rust : (b : SlirpBackend) → send self (whole frame) ≡ gives b → length (cameOf self b .writing .image) ≤ length before
+        → Meets (amendedIn (cameOf self b)) before after answer
+    handle-equals-the-rust b e room = meets (amendedIn (cameOf self b)) (at-end (length before) (gives b) e .3 .0 room)
+
+    -- where the frame is no client's DHCP message, all bytes of the reply are the Rust's
+    pub handle-equals-the-rust-whole : ((xid : ℕ) → Message frame xid → ⊥) → (b : SlirpBackend) → send self (whole frame) ≡ gives b
+        → length (cameOf self b .writing .image) ≤ length before → Meets (cameOf self b) before after answer
+    handle-equals-the-rust-whole no-dhcp b e room =
+        subst (λ (o : Outcome). Meets o before after answer) (amends-dhcp-alone no-dhcp b e) (handle-equals-the-rust b e room)
 
     -- where it gives, and the buffer is shorter than its reply: 5 with the reply's length, and nothing has changed
     pub handle-lacks-the-room : (b : SlirpBackend) → send self (whole frame) ≡ gives b → length before < length (cameOf self b .writing .image)
         → Meets (unwritten (5 ∷ length (cameOf self b .writing .image) ∷ []) (recordOf self)) before after answer
-    handle-lacks-the-room b e short = meets _ (at-end (length before) (gives b) e .2 .1 short)
+    handle-lacks-the-room b e short = meets _ (at-end (length before) (gives b) e .3 .1 short)
 
     -- where a header runs past the frame, and the Rust panics: 0, and nothing has changed
     pub handle-at-a-header-past : HeaderPast frame → Meets (unwritten (0 ∷ []) (recordOf self)) before after answer

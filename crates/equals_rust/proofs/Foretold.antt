@@ -2,6 +2,7 @@
 use Prim.Native.Nat.{ℕ, _+_, _%_, _≤_, _<_}
 use mathlib.Core.Path.{_≡_, refl, ap, sym, subst, _∙_}
 use mathlib.Core.Logic.{_⊎_, inl, inr}
+use mathlib.Core.Bool.{false}
 use mathlib.Core.List.{List, [], _∷_, _++_, append-nil}
 use native.Mathlib.Omega.{arith}
 use borrow.Author.Tests.{lt-ltb, le-ltb}
@@ -16,7 +17,7 @@ use Rattle.published.specs.Backend.{CallOut, «handle_tcp», SlirpBackend, with
 use Rattle.published.specs.Slirp.{send}
 use Rattle.wire.specs.Rfc792.{echo}
 use Rattle.rules.specs.Rules.{payload, decision, outcomeOf, outcome}
-use Rattle.record.specs.Guest.{noting, known}
+use Rattle.record.specs.Guest.{noting, known, Sized}
 use Rattle.record.specs.Answer.{unwritten, framing}
 use Rattle.rules.specs.Seen.{CutMessage, TooLongPing}
 use Rattle.rules.specs.declared.decision.Decision.{Decision}
@@ -27,8 +28,10 @@ use Rattle.arp_reply.proofs.ReadBack.{arp-reads-back}
 use Rattle.echo_reply.proofs.ReadBack.{echo-frame-reads-back}
 use Rattle.dhcp_reply.proofs.FrameReadBack.{dhcp-reads-back}
 use Rattle.equals_rust.specs.Alike.{recordOf, handoff, writtenAs, added, cameOf, Keeps, HandedOver, AllHandedOver}
+use Rattle.equals_rust.specs.Amended.{carriesUdp, amended, amendedIn, Excepted}
 use Rattle.equals_rust.specs.Types.{Bytes, GuestTyped}
 use Rattle.equals_rust.specs.Where.{HeaderPast}
+use Rattle.equals_rust.proofs.Amended.{amended-as-long, amended-other, arp-other, icmp-other, lease-ports, lease-amended}
 use Rattle.equals_rust.proofs.Ran.{Ran, send-ran}
 
 -- what a list has got
@@ -71,15 +74,27 @@ module _ (self : SlirpBackend) (frame : List ℕ) where
         handed = rw (one-added (self .calls) call) (h, tt);
       }
 
--- a frame that is to be built, by the room
-module _ (guest next : Guest) (need room : ℕ) (image : List ℕ) (size : length image ≡ need) where
-  fits : length image ≤ room → framing guest next need room image ≡ record { writing = writtenAs image; guest = next }
-  unfolding framing
-  fits h = rw (le-ltb room need (omega arith), size)
+-- a frame that is to be built, by the room: what the Rust pushed, as it becomes with us
+module _ (guest next : Guest) (need room : ℕ) (rust : List ℕ) (size : length (amended rust) ≡ need) where
+  rust-size : length rust ≡ need
+  rust-size = sym (amended-as-long rust) ∙ size
 
-  short : room < length image → framing guest next need room image ≡ unwritten (5 ∷ length image ∷ []) guest
+  fits : length rust ≤ room → framing guest next need room (amended rust) ≡ amendedIn (record { writing = writtenAs rust; guest = next })
   unfolding framing
-  short h = rw (lt-ltb room need (omega arith), size)
+  fits h = rw (le-ltb room need (omega (arith, rust-size)), rust-size)
+
+  short : room < length rust → framing guest next need room (amended rust) ≡ unwritten (5 ∷ length rust ∷ []) guest
+  unfolding framing
+  short h = rw (lt-ltb room need (omega (arith, rust-size)), rust-size)
+
+-- where nothing is written, there is nothing to amend
+nothing-amended : (numbers : List ℕ) (guest : Guest) → amendedIn (unwritten numbers guest) ≡ unwritten numbers guest
+unfolding amended carriesUdp
+nothing-amended numbers guest = refl
+
+-- nor where a frame is not UDP
+other-kept : (rust : List ℕ) (next : Guest) → carriesUdp rust ≡ false → amendedIn (record { writing = writtenAs rust; guest = next }) ≡ record { writing = writtenAs rust; guest = next }
+other-kept rust next other = rw (amended-other rust other)
 
 module _ (self : SlirpBackend) (frame : List ℕ) where
   -- what is to come where the Rust panics
@@ -89,11 +104,11 @@ module _ (self : SlirpBackend) (frame : List ℕ) where
   -- what is to come with this room, where that came of the Rust's run
   abbrev ByRoom : (room : ℕ) (came o : Outcome) → Type 0
   ByRoom room came o =
-      (length (came .writing .image) ≤ room → o ≡ came) × (room < length (came .writing .image) → o ≡ unwritten (5 ∷ length (came .writing .image) ∷ []) (recordOf self))
+      (length (came .writing .image) ≤ room → o ≡ amendedIn came) × (room < length (came .writing .image) → o ≡ unwritten (5 ∷ length (came .writing .image) ∷ []) (recordOf self))
 
   -- what is to come with this room, by how the Rust's run ends
   abbrev pub Foretells : (room : ℕ) → Run SlirpBackend → Outcome → Type 0
-  Foretells room (gives b) o = Keeps self b × AllHandedOver frame (added (self .calls) (b .calls)) × ByRoom room (cameOf self b) o
+  Foretells room (gives b) o = Keeps self b × AllHandedOver frame (added (self .calls) (b .calls)) × Excepted frame (cameOf self b) × ByRoom room (cameOf self b) o
   Foretells room panics o = AtPanic o
   Foretells room cuts o = TooLongPing rustNetwork frame (length (payload frame)) × (o ≡ unwritten (6 ∷ length (payload frame) ∷ []) (recordOf self))
   Foretells room unfinished o = ⊥
@@ -109,29 +124,44 @@ module _ (self : SlirpBackend) (frame : List ℕ) where
     by-run : (r′ : Run SlirpBackend) (o : Outcome) → r ≡ r′ → Foretells room r′ o → Foretells room r o
     by-run r′ o e = subst (λ (x : Run SlirpBackend). Foretells room x o) (sym e)
 
-    given : (b : SlirpBackend) (came o : Outcome) → r ≡ gives b → Came self frame b came → ByRoom room came o → Foretells room r o
-    given b came o e c by = by-run (gives b) o e (c .keeps, c .handed, subst (λ (x : Outcome). ByRoom room x o) (sym (c .came)) by)
+    given : (b : SlirpBackend) (came o : Outcome) → r ≡ gives b → Came self frame b came → Excepted frame came → ByRoom room came o → Foretells room r o
+    given b came o e c exception by =
+        by-run (gives b) o e (c .keeps, c .handed, subst (Excepted frame) (sym (c .came)) exception, subst (λ (x : Outcome). ByRoom room x o) (sym (c .came)) by)
 
     -- nothing is written: the room doesn't matter
     quiet : (b : SlirpBackend) (numbers : List ℕ) (guest : Guest) (o : Outcome) → r ≡ gives b → Came self frame b (unwritten numbers guest) → o ≡ unwritten numbers guest → Foretells room r o
-    quiet b numbers guest o e c same = given b (unwritten numbers guest) o e c ((λ h. same), (λ h. absurd (omega arith)))
+    quiet b numbers guest o e c same = given b (unwritten numbers guest) o e c (inl (nothing-amended numbers guest)) ((λ h. same ∙ sym (nothing-amended numbers guest)), (λ h. absurd (omega arith)))
+
+    -- a frame is pushed, and this is what it becomes with us
+    replied : (rust image : List ℕ) (counter xid need : ℕ) → r ≡ gives (pushed rust counter (withXid xid self)) → amended rust ≡ image → length image ≡ need
+        → Excepted frame (record { writing = writtenAs rust; guest = known (self .«guest_mac») counter xid rustNetwork })
+        → Foretells room r (framing (recordOf self) (known (self .«guest_mac») counter xid rustNetwork) need room image)
+    replied rust image counter xid need e turn size exception =
+        let next = known (self .«guest_mac») counter xid rustNetwork in
+        let size′ : length (amended rust) ≡ need = ap length turn ∙ size in
+        subst (λ (l : List ℕ). Foretells room r (framing (recordOf self) next need room l)) turn
+        (given _ _ _ e (came-pushed self frame rust counter xid) exception (fits (recordOf self) next need room rust size′, short (recordOf self) next need room rust size′))
+
+    -- one that is not UDP becomes itself
+    replied-whole : (rust : List ℕ) (counter xid need : ℕ) → r ≡ gives (pushed rust counter (withXid xid self)) → carriesUdp rust ≡ false → length rust ≡ need
+        → Foretells room r (framing (recordOf self) (known (self .«guest_mac») counter xid rustNetwork) need room rust)
+    replied-whole rust counter xid need e other size = replied rust rust counter xid need e (amended-other rust other) size (inl (other-kept rust _ other))
 
     foretold : GuestTyped (recordOf self) → (d : Decision) → Says rustNetwork frame d → Ran self frame r d → Foretells room r (outcomeOf (recordOf self) frame room d)
     unfolding Ran Says outcomeOf
     foretold typed Drop s (inl e) = quiet self _ _ _ e (came-quiet self frame (self .«dhcp_xid»)) refl
     foretold typed Drop s (inr (h, e)) = by-run panics _ e (inl (h, refl))
     foretold typed (DropNoting xid) s e = quiet _ _ _ _ e (came-quiet self frame xid) refl
-    foretold typed ArpReply s e =
-        let size = arp-reads-back rustNetwork frame refl .long in
-        given _ _ _ e (came-pushed self frame _ (self .counter) (self .«dhcp_xid»)) (fits _ _ 42 room _ size, short _ _ 42 room _ size)
+    foretold typed ArpReply s e = replied-whole _ _ _ 42 e (arp-other rustNetwork frame refl) (arp-reads-back rustNetwork frame refl .long)
     foretold typed (EchoReply start) s e =
         let eight = subst (λ (n : ℕ). 8 ≤ length (drop n frame)) (sym (s .1)) (s .0 .whole) in
-        let size =
-        echo-frame-reads-back rustNetwork (self .counter) frame (echo (drop start frame)) refl .long ∙ ap (λ (n : ℕ). 34 + n) (length-echo (drop start frame) (omega (arith, eight))) in
-        given _ _ _ e (came-pushed self frame _ ((self .counter + 1) % 65536) (self .«dhcp_xid»)) (fits _ _ _ room _ size, short _ _ _ room _ size)
+        let its = echo-frame-reads-back rustNetwork (self .counter) frame (echo (drop start frame)) refl in
+        replied-whole _ _ _ _ e (icmp-other its) (its .long ∙ ap (λ (n : ℕ). 34 + n) (length-echo (drop start frame) (omega (arith, eight))))
     foretold typed (DhcpReply xid type) s e =
-        let size = dhcp-reads-back (recordOf self) frame xid type (record { mac = typed .mac .long; network = four-bytes }) .long in
-        given _ _ _ e (came-pushed self frame _ ((self .counter + 1) % 65536) xid) (fits _ _ 342 room _ size, short _ _ 342 room _ size)
+        let sized : Sized (recordOf self) = record { mac = typed .mac .long; network = four-bytes } in
+        let ports = lease-ports (recordOf self) frame xid type sized in
+        replied _ _ _ xid 342 e (lease-amended (recordOf self) frame xid type sized) (dhcp-reads-back (recordOf self) frame xid type sized .long)
+        (inr (record { asked = (xid, s .0); from-68 = ports .source-port; to-67 = ports .target-port }))
     foretold typed (Dns start len) s e =
         let inside = s .handed .inside in
         quiet _ _ _ _ e (came-called self frame _ (part-again start len inside, refl, refl, refl)) (ap (λ (n : ℕ). unwritten (2 ∷ start ∷ n ∷ []) (recordOf self)) (part-length start len inside))

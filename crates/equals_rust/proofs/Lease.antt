@@ -18,7 +18,6 @@ use Rattle.wire.specs.Rfc768.{datagram}
 use Rattle.wire.specs.Rfc791.{header}
 use Rattle.frames.specs.Frames.{ipFrame}
 use Rattle.frames.proofs.Lengths.{length-datagram}
-use Rattle.dhcp_reply.specs.Reply.{dhcpFrame, dhcpFrameTo}
 use Rattle.base.proofs.Lists.{all-bytes}
 use Rattle.options.specs.Rfc2132.{option, Walked, typed, cut, decides, walk}
 use Rattle.options.proofs.Places.{walkAt, past-end, at-255, at-0, at-last, at-other, at-type, at-cut}
@@ -30,6 +29,7 @@ use Rattle.published.specs.Dhcp.{scan, «message_type», «build_reply», «sen
 use Rattle.equals_rust.proofs.Operations.{index-in, index-past, array-of, copy-over, be32-same}
 use Rattle.equals_rust.proofs.Builders.{ip-frame-given, udp-payload-given}
 use Rattle.equals_rust.proofs.Fields.{eth-src}
+use Rattle.equals_rust.proofs.Amended.{rustLease}
 use Rattle.equals_rust.specs.Alike.{recordOf}
 use Rattle.equals_rust.specs.Types.{GuestTyped}
 
@@ -123,8 +123,8 @@ build-reply-given xid type mac six = rw (all-bytes mac 6 six) (ap (λ (x : List 
 -- The frame of a reply: built for the broadcast MAC, then sent to the frame's own source.
 module _ (self : SlirpBackend) (frame : List ℕ) (typed : GuestTyped (recordOf self)) (long : 34 ≤ length frame) (xid type : ℕ) where
   pub lease-sent : «send_dhcp_reply» (withXid xid self) (whole frame) xid type
-      ≡ gives (pushed (dhcpFrame (recordOf self) frame xid type) ((self .counter + 1) % 65536) (withXid xid self))
-  unfolding «send_dhcp_reply» dhcpFrameTo ipFrame
+      ≡ gives (pushed (rustLease (recordOf self) frame xid type) ((self .counter + 1) % 65536) (withXid xid self))
+  unfolding «send_dhcp_reply» rustLease ipFrame
   lease-sent =
       let message = reply rustNetwork (self .«guest_mac») xid type in
       let whole-datagram = datagram 68 67 message in

@@ -1,4 +1,5 @@
 pub mod TheNetwork
+pub mod Amended
 pub mod Operations
 pub mod Sum
 pub mod Builders

@@ -28,7 +28,6 @@ use Rattle.published.specs.Udp.{«handle_udp»}
 use Rattle.published.specs.Dhcp.{«handle_dhcp», «send_dhcp_reply»}
 use Rattle.echo_reply.specs.Reply.{echoFrame}
 use Rattle.arp_reply.specs.Reply.{arpReply, replyTo}
-use Rattle.dhcp_reply.specs.Reply.{dhcpFrame}
 use Rattle.rules.specs.Rules.{payloadAt, payload, dataEnd, dataAt, dataLength, datagramData, decision, arpDecision, ipDecision, icmpDecision, udpDecision, dhcpDecision, typeDecision}
 use Rattle.rules.specs.Same.{same}
 use Rattle.rules.specs.Seen.{Carries}
@@ -40,6 +39,7 @@ use Rattle.equals_rust.specs.Alike.{recordOf}
 use Rattle.equals_rust.specs.Types.{Bytes, GuestTyped}
 use Rattle.equals_rust.specs.Where.{HeaderPast}
 use Rattle.equals_rust.proofs.Operations.{index-in, range-in, array-of, bytes-drop}
+use Rattle.equals_rust.proofs.Amended.{rustLease}
 use Rattle.equals_rust.proofs.Lease.{ran, message-type-walks, lease-sent}
 use Rattle.equals_rust.proofs.Ping.{answered, ping-cut, ping-answered}
 use Rattle.equals_rust.proofs.Fields.{range-at, u16be-in, eth-src, eth-type, ip-proto, ip-src, ip-dst, payload-there, payload-past}
@@ -51,7 +51,7 @@ Ran self frame r Drop = (r ≡ gives self) ⊎ (HeaderPast frame × (r ≡ panic
 Ran self frame r (DropNoting xid) = r ≡ gives (withXid xid self)
 Ran self frame r ArpReply = r ≡ gives (pushed (arpReply rustNetwork frame) (self .counter) self)
 Ran self frame r (EchoReply start) = r ≡ gives (pushed (echoFrame (recordOf self) frame start) ((self .counter + 1) % 65536) self)
-Ran self frame r (DhcpReply xid type) = r ≡ gives (pushed (dhcpFrame (recordOf self) frame xid type) ((self .counter + 1) % 65536) (withXid xid self))
+Ran self frame r (DhcpReply xid type) = r ≡ gives (pushed (rustLease (recordOf self) frame xid type) ((self .counter + 1) % 65536) (withXid xid self))
 Ran self frame r (Dns start len) =
     r ≡ gives (calling («handle_dns» (record { start = start; bytes = take len (drop start frame) }) (sourceMac frame) (sourceOf (body frame)) (sourcePort (payload frame))) self)
 Ran self frame r (Relay start len) =
@@ -165,7 +165,7 @@ module _ (self : SlirpBackend) (frame : List ℕ) (as-typed : GuestTyped (record
   unfolding Ran
   noted xid = refl
 
-  leased : (r : Run SlirpBackend) (xid type : ℕ) → r ≡ gives (pushed (dhcpFrame (recordOf self) frame xid type) ((self .counter + 1) % 65536) (withXid xid self))
+  leased : (r : Run SlirpBackend) (xid type : ℕ) → r ≡ gives (pushed (rustLease (recordOf self) frame xid type) ((self .counter + 1) % 65536) (withXid xid self))
       → Ran self frame r (DhcpReply xid type)
   unfolding Ran
   leased r xid type e = e

@@ -12,6 +12,7 @@ use Rattle.published.specs.Backend.{SlirpBackend}
 use Rattle.published.specs.Slirp.{send}
 use Rattle.rules.specs.Rules.{outcome}
 use Rattle.equals_rust.specs.Alike.{cameOf}
+use Rattle.equals_rust.specs.Amended.{amendedIn}
 use Rattle.equals_rust.specs.Types.{Bytes}
 
 -- one call: the frame, the buffer before and after, the answer
@@ -34,9 +35,9 @@ leftBy x = x .answer .guest
 abbrev pub Served : Guest → List Exchange → Type 0
 Served guest xs = Runs Answered leftBy guest xs
 
--- the same frames sent to the Rust: as long as it gives a backend and the reply has room, each answer is the Rust's
+-- the same frames sent to the Rust: as long as it gives a backend and the reply has room, each answer is the Rust's, as it is amended
 abbrev pub AsTheRust : SlirpBackend → List Exchange → Type 0
 AsTheRust self [] = Unit
 AsTheRust self (x ∷ xs) =
     (b : SlirpBackend) → send self (whole (x .frame)) ≡ gives b → length (cameOf self b .writing .image) ≤ length (x .before)
-    → Meets (cameOf self b) (x .before) (x .after) (x .answer) × AsTheRust b xs
+    → Meets (amendedIn (cameOf self b)) (x .before) (x .after) (x .answer) × AsTheRust b xs

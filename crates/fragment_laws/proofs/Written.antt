@@ -5,7 +5,7 @@ use mathlib.Core.Path.{_≡_, ap, _∙_}
 use native.Mathlib.Omega.{arith}
 use lib.ListN.{length, getD, drop, length-drop}
 use lib.Seq.{getD-take, getD-drop, length-take-le}
-use Rattle.base.proofs.Lists.{length-put}
+use Rattle.base.proofs.Lists.{length-put, byte-put, byte-beside}
 use Rattle.base.specs.Bytes.{part}
 use Rattle.bitmap.specs.Bitmap.{bit, having}
 use Rattle.fragment_packets.proofs.Fitting.{Fits, part-fits}
@@ -17,7 +17,6 @@ use Rattle.fragment_rules.specs.declared.answer.End.{End}
 use Rattle.fragment_rules.specs.declared.ruling.Ruling.the-variants as Ruling
 use Rattle.fragment_laws.specs.Calls.{Store, Sized, Call, after}
 use Rattle.fragment_laws.specs.Trains.{piece, Fit, Covers, byteFor}
-use Rattle.fragment_laws.proofs.Storing.{byte-put, byte-beside}
 
 -- the blocks that are there once a fragment has come
 abbrev pub thereWith : Store → (frame : List ℕ) → ℕ → ℕ
