@@ -1,12 +1,13 @@
 -- Demand 2 of the gateway: "On every frame where the Rust shown doesn't panic or cut a length to 16 bits, and the buffer has room for the reply, the verdict and reply bytes, and the record after a
--- drop or reply, equal the Rust's from the same IP id, xid and guest MAC, but where a request of document 02 says otherwise." It says so of the ports of a DHCP reply (`amended`). The Rust is crate `published`: a build without overflow checks. `recordOf` a backend is the record with its id, xid and MAC,
--- on the network of the Rust's text. (Document 02, 1/13: "Demand 2 compares with the Rust for the record of 01's values and with the written definition for every other": the latter is `handle`'s contract.)
+-- drop or reply, equal the Rust's from the same IP id, xid and guest MAC, but where a request of document 02 says otherwise." The Rust is crate `published`: a build without overflow checks.
+-- `recordOf` a backend is the record with its id, xid and MAC, on the network of the Rust's text. What document 02 says otherwise is the order of ports in a DHCP reply (2/13): `amendedIn` puts it into
+-- what came of the Rust's run. (1/13: "Demand 2 compares with the Rust for the record of 01's values and with the written definition for every other": the latter is `handle`'s contract.)
 use Prim.Native.Nat.{ℕ, _≤_, _<_}
-use mathlib.Core.Path.{_≡_, refl, ap, sym, subst}
+use mathlib.Core.Path.{_≡_, refl, ap, sym, subst, _∙_}
 use mathlib.Core.Logic.{_⊎_, inl, inr, _↔_}
 use mathlib.Core.List.{List, [], _∷_}
 use native.Mathlib.Omega.{arith}
-use lib.ListN.{length}
+use lib.ListN.{length, getD, List·getD-append}
 use Rattle.record.specs.Answer.{Outcome, Meets}
 use Rattle.record.specs.Guest.{fresh, known}
 use Rattle.making.proofs.Exactly.{good-is-made}
@@ -25,9 +26,10 @@ use Rattle.rules.specs.Rules.{payload, outcome, outcomeOf}
 use Rattle.record.specs.Answer.{unwritten}
 use Rattle.rules.specs.Seen.{Message, CutMessage}
 use Rattle.equals_rust.specs.Alike.{recordOf, added, cameOf, Keeps, AllHandedOver}
-use Rattle.equals_rust.specs.Amended.{amendedIn, Excepted}
+use Rattle.equals_rust.specs.Amended.{amended, amendedIn, Excepted}
 use Rattle.equals_rust.specs.Types.{Bytes, GuestTyped}
 use Rattle.equals_rust.specs.Where.{HeaderPast, TypeCut, PingOver}
+use Rattle.equals_rust.proofs.Amended.{amended-as-long, amended-elsewhere}
 use Rattle.equals_rust.proofs.Foretold.{AtPanic, Foretells, foretells}
 use Rattle.equals_rust.proofs.OnAll.{header-past-panics, type-cut-panics, ping-over-cuts, cut-decided}
 
@@ -114,6 +116,15 @@ module _ (self : SlirpBackend) (frame : List ℕ) (typed : GuestTyped (recordOf 
     pub handle-equals-the-rust : (b : SlirpBackend) → send self (whole frame) ≡ gives b → length (cameOf self b .writing .image) ≤ length before
         → Meets (amendedIn (cameOf self b)) before after answer
     handle-equals-the-rust b e room = meets (amendedIn (cameOf self b)) (at-end (length before) (gives b) e .3 .0 room)
+
+    -- so each byte of the reply outside 34 to 37 is the Rust's
+    pub handle-has-the-rusts-bytes : (b : SlirpBackend) → send self (whole frame) ≡ gives b → length (cameOf self b .writing .image) ≤ length before
+        → (place : ℕ) → place < length (cameOf self b .writing .image) → (34 ≤ place → 38 ≤ place) → getD after place 0 ≡ getD (cameOf self b .writing .image) place 0
+    handle-has-the-rusts-bytes b e room place there out =
+        let rust = cameOf self b .writing .image in
+        ap (λ (l : List ℕ). getD l place 0) (handle-equals-the-rust b e room .wrote .bytes)
+        ∙ List·getD-append (amended rust) _ 0 place (omega (arith, amended-as-long rust, there))
+        ∙ amended-elsewhere rust place out
 
     -- where the frame is no client's DHCP message, all bytes of the reply are the Rust's
     pub handle-equals-the-rust-whole : ((xid : ℕ) → Message frame xid → ⊥) → (b : SlirpBackend) → send self (whole frame) ≡ gives b

@@ -10,12 +10,12 @@ use Rattle.dhcp_message.specs.Message.{reply}
 use Rattle.dhcp_reply.specs.Reply.{replySource, replyTarget}
 use Rattle.record.specs.Network.{FourBytes}
 use Rattle.dhcp_message.proofs.ReadBack.{reply-reads-back}
-use Rattle.base.specs.Bytes.{be32, u8At}
+use Rattle.base.specs.Bytes.{be32, u8At, u16At}
 use Rattle.wire.specs.Rfc768.{datagram}
 use Rattle.record.specs.declared.network.Network.{Network}
 use Rattle.frames.proofs.Lengths.{length-datagram}
 use Rattle.base.proofs.Lists.{all-bytes}
-use Rattle.grammar.specs.Grammar.{body, ItemList, END, item, option, IsList, options53, CarriesDHCP, DHCP, dataAt, Derives}
+use Rattle.grammar.specs.Grammar.{body, payload, ItemList, END, item, option, IsList, options53, DHCP, dataAt, Derives}
 use Rattle.grammar.specs.Report.{partsOf}
 use Rattle.grammar.proofs.Places.{placed}
 use Rattle.rules.specs.declared.decision.Decision.the-variants.{DhcpReply}
@@ -89,7 +89,8 @@ module _ (net : Network) (mac : List ℕ) (xid type : ℕ) (four : FourBytes net
       let r = reply-reads-back net mac xid type four six in
       let inner : drop 42 frame ≡ m = sym (drop-drop 8 34 frame) ∙ ap (drop 8) (p .behind) in
       let t : u8At frame 284 ≡ type = payload-byte p 250 ∙ ap (λ (s : List ℕ). getD s 2 0) (r .type-is) in
-      let ports : CarriesDHCP (body frame) = rw (p .payload-is) (inl (refl, refl)) in
+      let from : u16At (payload (body frame)) 0 ≡ 67 = rw (p .payload-is) in
+      let to : u16At (payload (body frame)) 2 ≡ 68 = rw (p .payload-is) in
       let at : dataAt frame ≡ 42 = omega (arith, p .payload-at) in
       let stop : n ≡ 42 + length (drop 42 frame) = omega (arith, p .long, r .long, length-datagram replySource replyTarget m, ap length inner) in (
         (
@@ -99,9 +100,11 @@ module _ (net : Network) (mac : List ℕ) (xid type : ℕ) (four : FourBytes net
           p .ethernet-placed,
           p .ip-placed,
           payload-placed p 8 42 refl,
-          ports,
+          inl (from, to),
           rw at (message-derived frame inner t least most),
           rw at (placed 42 240 (drop 42 frame) 42 282 n refl refl stop),
         ),
         rw t,
+        from,
+        to,
       )
