@@ -18,9 +18,13 @@ use Rattle.wire.specs.Rfc894.{body, typeOf}
 unfoldable pub carriesUdp : (frame : List ℕ) → Bool
 carriesUdp frame = eqb (typeOf frame) 0x0800 && eqb (protocolOf (body frame)) 17
 
+-- the ports, from the server's to the client's
+abbrev pub serverToClient : List ℕ
+serverToClient = 0x00 ∷ 0x43 ∷ 0x00 ∷ 0x44 ∷ []
+
 -- its bytes 34 to 37 replaced; every other frame as it is
 unfoldable pub amended : (frame : List ℕ) → List ℕ
-amended frame = cond (carriesUdp frame) (putIfFits 34 (0x00 ∷ 0x43 ∷ 0x00 ∷ 0x44 ∷ []) frame) frame
+amended frame = cond (carriesUdp frame) (putIfFits 34 serverToClient frame) frame
 
 -- what came of a run of the Rust's, with the frame that it pushed, if any, as it becomes with us: the numbers and the record are the Rust's
 abbrev pub amendedIn : (came : Outcome) → Outcome

@@ -1,6 +1,6 @@
 -- `udp::make_udp_payload` meets its contract: the header and then the data, put one behind the other, are the datagram at the buffer's front.
 use Prim.Native.Nat.{ℕ, _+_}
-use mathlib.Core.Path.{ap, _∙_}
+use mathlib.Core.Path.{_≡_, ap, _∙_}
 use mathlib.Core.List.{List, _++_}
 use native.Mathlib.Omega.{arith}
 use borrow.Author.Needs.{needs}
@@ -23,9 +23,11 @@ unfolding datagram
 returns-3 c =
     let a = c .before .before .before .before .before .before .before .before .before .before .before .before .before .before .args in
     let head = datagramHeader (a .src-port) (a .dst-port) (8 + length (a .data .now)) in
+    let made = c .before .before .before .before .before .before .before .before .before .udp-header in
+    let its-head : made .result ≡ head = made .ensures in
     written _ _ _ _ _ _ _ (omega arith) (omega arith)
     (c .before .before .put2 .ensures ∙ fits _ _ _ (omega arith)
-    ∙ ap (put 8 (a .data .now)) (c .before .before .before .before .before .before .put .ensures ∙ fits _ _ _ (omega arith) ∙ ap (λ (h : List ℕ). put 0 h (a .out .now)) (c .before .before .before .before .before .before .before .before .before .udp-header .ensures))
+    ∙ ap (put 8 (a .data .now)) (c .before .before .before .before .before .before .put .ensures ∙ fits _ _ _ (omega arith) ∙ ap (λ (h : List ℕ). put 0 h (a .out .now)) its-head)
     ∙ put-put 0 head (a .data .now) (a .out .now) (omega arith)
     ∙ put-front (head ++ a .data .now) (a .out .now))
 
