@@ -66,8 +66,10 @@ fn asked<'a>(words: &[&'a str]) -> Result<(&'a str, &'a str, Guest), String> {
 }
 
 fn mac_of(word: &str) -> Result<[u8; 6], String> {
-    let byte = |digits: &str| match digits.len() {
-        2 => u8::from_str_radix(digits, 16).ok(),
+    let byte = |digits: &str| match digits.as_bytes() {
+        // a sign would be taken too
+        [b'+', _] => None,
+        [_, _] => u8::from_str_radix(digits, 16).ok(),
         _ => None,
     };
     let bytes: Option<Vec<u8>> = word.split(':').map(byte).collect();
@@ -199,4 +201,136 @@ impl<C: Write> Capture<C> {
 
 fn numbers<const COUNT: usize>(numbers: [u32; COUNT]) -> Vec<u8> {
     numbers.map(u32::to_be_bytes).concat()
+}
+
+#[cfg(test)]
+mod tests {
+    use super::*;
+
+    /// A stream that hands out one byte a time, and keeps what is written.
+    struct Trickle<'a> {
+        bytes: &'a [u8],
+        written: Vec<u8>,
+    }
+
+    impl Read for Trickle<'_> {
+        fn read(&mut self, buffer: &mut [u8]) -> io::Result<usize> {
+            let most = buffer.len().min(1);
+            self.bytes.read(&mut buffer[..most])
+        }
+    }
+
+    impl Write for Trickle<'_> {
+        fn write(&mut self, bytes: &[u8]) -> io::Result<usize> {
+            self.written.write(&bytes[..bytes.len().min(7)])
+        }
+
+        fn flush(&mut self) -> io::Result<()> {
+            Ok(())
+        }
+    }
+
+    const MAC: [u8; 6] = [0x52, 0x54, 0x00, 0x12, 0x34, 0x56];
+
+    fn trickle(bytes: &[u8]) -> Trickle<'_> {
+        Trickle {
+            bytes,
+            written: Vec::new(),
+        }
+    }
+
+    /// What serving this stream comes to: the end, what was written back, and the capture.
+    fn serve(bytes: &[u8]) -> (Result<(), String>, Vec<u8>, Vec<u8>) {
+        let mut host = Host {
+            stream: trickle(bytes),
+            capture: Capture::start(Vec::new()).unwrap(),
+            guest: new_guest(MAC, &[]).unwrap(),
+        };
+        let served = host.serve().map_err(|error| error.to_string());
+        (served, host.stream.written, host.capture.0)
+    }
+
+    /// Who has 10.0.2.2?
+    fn arp_request() -> Vec<u8> {
+        let who = [&MAC[..], &[10, 0, 2, 15], &[0; 6], &[10, 0, 2, 2]].concat();
+        [&[0xff; 6], &MAC[..], &[8, 6, 0, 1, 8, 0, 6, 4, 0, 1], &who].concat()
+    }
+
+    #[test]
+    fn frames_are_told_apart_by_their_lengths() {
+        let mut stream = trickle(b"\0\0\0\x03abc\0\0\0\0\0\0\0\x01d");
+        let mut room = [0; 3];
+        for frame in [&b"abc"[..], b"", b"d"] {
+            let read = read_frame(&mut stream, &mut room).unwrap();
+            assert_eq!(read, Some(frame));
+        }
+        assert_eq!(read_frame(&mut stream, &mut room).unwrap(), None);
+    }
+
+    #[test]
+    fn a_length_past_the_bound_is_told() {
+        for length in [FRAME_ROOM + 1, 1 << 31, u32::MAX as usize] {
+            let bytes = [&(length as u32).to_be_bytes()[..], &[0; 9]].concat();
+            let why = format!("a frame of {length} bytes is announced, and 69632 is the most");
+            assert_eq!(serve(&bytes).0, Err(why));
+        }
+        let longest = [&(FRAME_ROOM as u32).to_be_bytes()[..], &[0; FRAME_ROOM]].concat();
+        assert_eq!(serve(&longest).0, Ok(()));
+    }
+
+    #[test]
+    fn a_stream_that_is_cut_is_told_wherever_it_is() {
+        let request = arp_request();
+        let bytes = [&[0, 0, 0, 42], &request[..]].concat();
+        for cut in 1..46 {
+            let why = match cut {
+                ..4 => format!("the stream ends behind {cut} bytes of a length, which has 4"),
+                _ => format!(
+                    "the stream ends behind {} bytes of a frame, which has 42",
+                    cut - 4
+                ),
+            };
+            // before any frame, and behind one that is answered
+            assert_eq!(serve(&bytes[..cut]).0, Err(why.clone()));
+            let (served, written, _) = serve(&[&bytes, &bytes[..cut]].concat());
+            assert_eq!((served, written.len()), (Err(why), 46));
+        }
+        assert_eq!(serve(&[]).0, Ok(()));
+        assert_eq!(serve(&bytes).0, Ok(()));
+    }
+
+    #[test]
+    fn a_reply_is_written_with_its_length_and_both_frames_are_in_the_capture() {
+        let request = arp_request();
+        let (served, written, capture) = serve(&[&[0, 0, 0, 42], &request[..]].concat());
+        assert_eq!(served, Ok(()));
+        assert_eq!(written[..4], [0, 0, 0, 42]);
+        assert_eq!(written[4..10], MAC);
+        assert_eq!(
+            capture[..24],
+            *b"\xa1\xb2\xc3\xd4\0\x02\0\x04\0\0\0\0\0\0\0\0\0\x01\x10\0\0\0\0\x01"
+        );
+        // Each frame has its time before it, and its length twice.
+        for (at, frame) in [(24, &request), (82, &written[4..].to_vec())] {
+            assert_eq!(capture[at + 8..at + 16], *b"\0\0\0\x2a\0\0\0\x2a");
+            assert_eq!(capture[at + 16..at + 58], *frame);
+        }
+        assert_eq!(capture.len(), 140);
+    }
+
+    #[test]
+    fn words_that_name_no_guest_are_refused() {
+        assert!(asked(&["socket", "capture", "52:54:00:12:34:56"]).is_ok());
+        for mac in [
+            "",
+            "52:54:00:12:34",
+            "52:54:00:12:34:5",
+            "52:54:00:12:34:56:",
+            "+2:54:00:12:34:56",
+        ] {
+            assert_eq!(mac_of(mac), Err(format!("'{mac}' is no MAC")));
+        }
+        assert!(asked(&["socket", "capture"]).is_err());
+        assert!(asked(&["socket", "capture", "52:54:00:12:34:56", "10.0.2.2"]).is_err());
+    }
 }
