@@ -117,8 +117,10 @@ impl<S: Read + Write, C: Write> Host<S, C> {
             tally.frames += 1;
             self.capture.add(frame)?;
             if let Some(n) = tally.take(&mut self.guest, frame, &mut reply) {
-                self.capture.add(&reply[..n])?;
                 let written = write_frame(&mut self.stream, &reply[..n]);
+                if written.is_ok() {
+                    self.capture.add(&reply[..n])?;
+                }
                 tally.written(self.guest.mac, n, written);
             }
         }
