@@ -4,7 +4,7 @@
 //!
 //! It makes the Unix socket SOCKET and waits there for QEMU, which carries the frames of one network device:
 //!
-//!     qemu-system-x86_64 .. -netdev stream,id=link,addr.type=unix,addr.path=SOCKET \
+//!     qemu-system-x86_64 .. -netdev stream,id=link,addr.type=unix,addr.path=SOCKET
 //!         -device virtio-net-pci,netdev=link,mac=MAC
 //!
 //! Each frame of the guest goes to the gateway, with the one record that the guest has: it is known by its
