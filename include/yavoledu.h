@@ -112,7 +112,8 @@ uint32_t yavoledu_make_guest(yavoledu_guest *guest, const uint8_t mac[6], const 
                              const uint8_t mask[4], uint32_t lease_named, uint32_t lease);
 
 /* What a frame of this guest gets. The data of 2 and 3 is the frame's own: frame + values[0], values[1] bytes.
- * With 65,549 bytes of room 5 is never answered, nor with frame_len + 16 and 342 at least; no reply is longer. */
+ * With 65,549 bytes of room 5 is never answered, nor with frame_len + 16 and 342 at least; no reply is longer.
+ * A DHCP reply goes from port 67 to port 68, to the frame's source MAC and the network's broadcast address. */
 uint32_t yavoledu_send(yavoledu_guest *guest, const uint8_t *frame, size_t frame_len, uint8_t *reply, size_t reply_len,
                        size_t values[2]);
 

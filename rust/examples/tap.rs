@@ -20,15 +20,16 @@
 use std::collections::HashMap;
 use std::env;
 use std::ffi::{c_int, c_short, c_ulong};
-use std::fmt;
 use std::fs::{File, OpenOptions};
 use std::io::{self, ErrorKind, Read, Write};
-use std::net::{Ipv4Addr, SocketAddrV4};
 use std::os::fd::AsRawFd;
 use std::process::ExitCode;
 use std::sync::atomic::{AtomicBool, Ordering};
 
-use yavoledu::{Guest, NetworkPlan, Verdict};
+use yavoledu::Guest;
+
+mod common;
+use common::{ETHERNET_HEADER, Mac, REPLY_ROOM, Tally, new_guest};
 
 /// The most MACs that get a record. A frame from any further one gets no answer and is counted. No
 /// record makes room for another, since a guest that lost its own would see its ids start again.
@@ -38,11 +39,6 @@ const MOST_GUESTS: usize = 64;
 
 /// More than a TAP device can send: its MTU is at most 65,521, with a header of 14 bytes and tags.
 const FRAME_ROOM: usize = 65_600;
-/// The gateway's longest reply: with this room it has never too little.
-const REPLY_ROOM: usize = 65_549;
-/// A frame shorter than its Ethernet header has no MAC to look up, and the gateway drops it.
-const ETHERNET_HEADER: usize = 14;
-const UDP_HEADER: usize = 8;
 
 const USAGE: &str = "usage: tap NAME [GATEWAY GUEST MASK [LEASE]]
   MASK   as an address, or the number of its ones
@@ -71,9 +67,14 @@ fn main() -> ExitCode {
         new_guest,
         guests: HashMap::new(),
         tally: Tally::default(),
+        without_record: 0,
     };
     let served = host.serve(name);
-    println!("tally: {}, guests {}", host.tally, host.guests.len());
+    let (without, guests) = (host.without_record, host.guests.len());
+    println!(
+        "tally: {}, without a record {without}, guests {guests}",
+        host.tally
+    );
     match served {
         Ok(()) => ExitCode::SUCCESS,
         Err(error) => {
@@ -85,41 +86,10 @@ fn main() -> ExitCode {
 
 /// The device's name, and a new guest's record on the network that the words ask for, but for its MAC.
 fn asked<'a>(words: &[&'a str]) -> Result<(&'a str, Guest), String> {
-    let (name, plan) = match *words {
-        [name] => (name, NetworkPlan::DOCUMENT_01),
-        [name, gateway, guest, mask, ref lease @ ..] if lease.len() < 2 => {
-            let plan = NetworkPlan {
-                gateway: address(gateway)?,
-                guest: address(guest)?,
-                mask: mask_of(mask)?,
-                lease: lease.first().map(|word| seconds(word)).transpose()?,
-            };
-            (name, plan)
-        }
-        _ => return Err(format!("{} words are too few or too many", words.len())),
+    let [name, network @ ..] = words else {
+        return Err("a device has to be named".into());
     };
-    let new_guest = Guest::new([0; 6], &plan).map_err(|bad| bad.to_string())?;
-    Ok((name, new_guest))
-}
-
-fn address(word: &str) -> Result<[u8; 4], String> {
-    let address: Ipv4Addr = word
-        .parse()
-        .map_err(|_| format!("'{word}' is no IPv4 address"))?;
-    Ok(address.octets())
-}
-
-fn mask_of(word: &str) -> Result<[u8; 4], String> {
-    match word.parse::<u32>() {
-        // In 64 bits, since 32 zeros would be too many to shift by.
-        Ok(ones @ 0..=32) => Ok(((u64::MAX << (32 - ones)) as u32).to_be_bytes()),
-        _ => address(word).map_err(|_| format!("'{word}' is no mask and no number from 0 to 32")),
-    }
-}
-
-fn seconds(word: &str) -> Result<u32, String> {
-    word.parse()
-        .map_err(|_| format!("'{word}' is no lease time: a number from 0 to {}", u32::MAX))
+    Ok((name, new_guest([0; 6], network)?))
 }
 
 struct Host {
@@ -128,6 +98,7 @@ struct Host {
     new_guest: Guest,
     guests: HashMap<[u8; 6], Guest>,
     tally: Tally,
+    without_record: u64,
 }
 
 impl Host {
@@ -146,13 +117,14 @@ impl Host {
 
     fn take(&mut self, frame: &[u8], reply: &mut [u8]) {
         self.tally.frames += 1;
+        // A shorter frame has no MAC to look up, and the gateway drops it.
         let Some(&[_, _, _, _, _, _, mac @ .., _, _]) = frame.first_chunk::<ETHERNET_HEADER>()
         else {
             self.tally.drops += 1;
             return;
         };
         if !self.guests.contains_key(&mac) && self.guests.len() == MOST_GUESTS {
-            self.tally.without_record += 1;
+            self.without_record += 1;
             return;
         }
         let guest = self.guests.entry(mac).or_insert_with(|| {
@@ -162,105 +134,10 @@ impl Host {
                 ..self.new_guest.clone()
             }
         });
-        match guest.send(frame, reply) {
-            Verdict::Drop => self.tally.drops += 1,
-            Verdict::Reply(n) => self.write(mac, &reply[..n]),
-            Verdict::Dns { start, len } => {
-                self.tally.dns += 1;
-                let ends = ends(frame, start - UDP_HEADER);
-                println!("dns {} {ends}, start {start}, length {len}", Mac(mac));
-            }
-            Verdict::Relay { start, len } => {
-                self.tally.relay += 1;
-                let ends = ends(frame, start - UDP_HEADER);
-                println!("relay {} {ends}, start {start}, length {len}", Mac(mac));
-            }
-            Verdict::Tcp(n) => {
-                self.tally.tcp += 1;
-                let segment = ETHERNET_HEADER + 4 * usize::from(frame[ETHERNET_HEADER] & 0x0f);
-                let ends = ends(frame, segment);
-                println!("tcp {} {ends}, length {n}", Mac(mac));
-            }
-            Verdict::NoRoom(n) => self.refused(mac, format_args!("the reply needs {n} bytes")),
-            Verdict::TooLong(n) => self.refused(mac, format_args!("{n} bytes are too long")),
-            Verdict::CutType(at) => {
-                self.refused(mac, format_args!("the DHCP message type at {at} is cut"));
-            }
+        if let Some(n) = self.tally.take(guest, frame, reply) {
+            let written = self.device.write_all(&reply[..n]);
+            self.tally.written(mac, n, written);
         }
-    }
-
-    /// A reply that can't be written is told, and costs nobody else anything: so it is where the
-    /// guest has taken its link down in the meantime.
-    fn write(&mut self, mac: [u8; 6], reply: &[u8]) {
-        match self.device.write_all(reply) {
-            Ok(()) => self.tally.replies += 1,
-            Err(error) => {
-                self.tally.unsent += 1;
-                println!("unsent {} {} bytes: {error}", Mac(mac), reply.len());
-            }
-        }
-    }
-
-    fn refused(&mut self, mac: [u8; 6], why: fmt::Arguments) {
-        self.tally.refused += 1;
-        println!("refused {} {why}", Mac(mac));
-    }
-}
-
-/// From whom to whom an IPv4 frame goes that the gateway has handed on: it has both addresses, but a
-/// TCP frame, at which the gateway looks no further, may end before its ports.
-fn ends(frame: &[u8], ports: usize) -> String {
-    let address = |at: usize| Ipv4Addr::new(frame[at], frame[at + 1], frame[at + 2], frame[at + 3]);
-    let (from, to) = (address(26), address(30));
-    match frame.get(ports..ports + 4) {
-        Some(&[a, b, c, d]) => {
-            let from = SocketAddrV4::new(from, u16::from_be_bytes([a, b]));
-            let to = SocketAddrV4::new(to, u16::from_be_bytes([c, d]));
-            format!("{from} to {to}")
-        }
-        _ => format!("{from} to {to}, no ports"),
-    }
-}
-
-struct Mac([u8; 6]);
-
-impl fmt::Display for Mac {
-    fn fmt(&self, f: &mut fmt::Formatter) -> fmt::Result {
-        let [a, b, c, d, e, g] = self.0;
-        write!(f, "{a:02x}:{b:02x}:{c:02x}:{d:02x}:{e:02x}:{g:02x}")
-    }
-}
-
-/// What became of the frames. Each is in exactly one of the others.
-#[derive(Default)]
-struct Tally {
-    frames: u64,
-    replies: u64,
-    unsent: u64,
-    drops: u64,
-    dns: u64,
-    relay: u64,
-    tcp: u64,
-    refused: u64,
-    without_record: u64,
-}
-
-impl fmt::Display for Tally {
-    fn fmt(&self, f: &mut fmt::Formatter) -> fmt::Result {
-        let Tally {
-            frames,
-            replies,
-            unsent,
-            drops,
-            dns,
-            relay,
-            tcp,
-            refused,
-            without_record,
-        } = self;
-        write!(f, "frames {frames}, replies {replies}, unsent {unsent}, ")?;
-        write!(f, "drops {drops}, dns {dns}, relay {relay}, tcp {tcp}, ")?;
-        write!(f, "refused {refused}, without a record {without_record}")
     }
 }
 

@@ -187,6 +187,9 @@ impl Guest {
 
     /// What a frame of this guest gets. A reply is written into `reply`; what is handed on stays in the frame.
     ///
+    /// A DHCP reply goes from port 67 to port 68 (RFC 2131), to the MAC that the frame came from and the broadcast address of the
+    /// record's network.
+    ///
     /// The frame may have any length and the buffer any size. A buffer of 65,549 bytes has room for every reply, and so has one
     /// of `frame.len() + 16` bytes, and 342 at least: that is proved.
     ///

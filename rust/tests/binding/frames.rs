@@ -207,7 +207,8 @@ pub fn from_dhcp_client(message: &[u8]) -> Vec<u8> {
     from_guest(UDP, [255; 4], &udp(68, 67, message))
 }
 
-/// The frame of a DHCP reply to a guest frame from `GUEST_MAC`, row by row as document 01 has it, for this record.
+/// The frame of a DHCP reply to a guest frame from `GUEST_MAC`, row by row as document 01 has it, for this record. It goes
+/// from port 67 to port 68: document 02, 2/13.
 pub fn dhcp_reply(record: &Guest, xid: [u8; 4], message_type: u8) -> Vec<u8> {
     let Network {
         gateway,
@@ -236,7 +237,7 @@ pub fn dhcp_reply(record: &Guest, xid: [u8; 4], message_type: u8) -> Vec<u8> {
     }
     message[273] = 255;
     let target = broadcast(&record.network);
-    let datagram = udp(68, 67, &message);
+    let datagram = udp(67, 68, &message);
     let packet = ipv4(record.id, UDP, gateway, target, &[], &datagram);
     ethernet(GUEST_MAC, GATEWAY_MAC, 0x0800, &packet)
 }

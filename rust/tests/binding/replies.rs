@@ -132,7 +132,8 @@ fn d0_d1_an_offer() {
     let mut guest = new_guest(GUEST_MAC);
     let reply = reply_to(&mut guest, &from_dhcp_client(&dhcp_message(&DISCOVER)));
     assert_eq!(reply[24..26], [0x20, 0xa4]);
-    assert_eq!(reply[34..42], bytes("0044004301340000"));
+    // D0 as document 02, 2/13, amends it
+    assert_eq!(reply[34..42], bytes("0043004401340000"));
     assert_eq!(reply, dhcp_reply(&new_guest(GUEST_MAC), XID, 2));
     assert_eq!(
         guest,
@@ -165,6 +166,41 @@ fn d5_an_offer_though_the_option_overruns() {
         reply_to(&mut new_guest(GUEST_MAC), &frame),
         dhcp_reply(&new_guest(GUEST_MAC), XID, 2)
     );
+}
+
+/// The ports of a datagram, from and to, in an IPv4 frame without options.
+fn ports(frame: &[u8]) -> (u16, u16) {
+    let number = |at| u16::from_be_bytes([frame[at], frame[at + 1]]);
+    (number(34), number(36))
+}
+
+#[test]
+fn a_dhcp_reply_goes_from_the_servers_port_to_the_clients() {
+    // RFC 2131, section 4.1: a server's is 67, a client's 68. A renewal is asked for at the server's own address.
+    for (asked, answered) in [(1, 2), (3, 5)] {
+        for target in [[255; 4], GATEWAY_IP, OUTSIDE_IP] {
+            let message = dhcp_message(&[53, 1, asked, 255]);
+            let frame = from_guest(UDP, target, &udp(68, 67, &message));
+            let reply = reply_to(&mut new_guest(GUEST_MAC), &frame);
+            assert_eq!(ports(&reply), (67, 68));
+            assert_eq!(reply, dhcp_reply(&new_guest(GUEST_MAC), XID, answered));
+        }
+    }
+}
+
+#[test]
+fn a_dhcp_reply_that_comes_back_is_no_clients_message() {
+    let mut guest = new_guest(GUEST_MAC);
+    let offer = reply_to(&mut guest, &from_dhcp_client(&dhcp_message(&DISCOVER)));
+    let after = guest.clone();
+    assert_eq!(
+        guest.send(&offer, &mut [0; 400]),
+        Verdict::Relay {
+            start: 42,
+            len: 300
+        }
+    );
+    assert_eq!(guest, after);
 }
 
 #[test]
