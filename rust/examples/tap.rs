@@ -48,7 +48,7 @@ const USAGE: &str = "usage: tap NAME [GATEWAY GUEST MASK [LEASE]]
   MASK   as an address, or the number of its ones
   LEASE  in seconds";
 
-fn main() -> ExitCode {
+pub fn main() -> ExitCode {
     let words: Vec<String> = env::args().skip(1).collect();
     let words: Vec<&str> = words.iter().map(String::as_str).collect();
     let (name, new_guest) = match asked(&words) {
