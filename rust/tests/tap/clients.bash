@@ -17,9 +17,16 @@ find_client() { # PROGRAM PACKAGE NAME...
     if is_installed "$1"; then
         programs+=("$1")
         clients+=("${@:3}")
+        note "$3: $(version_of "$1")"
     else
         note "$3 is left out, since $1 is missing: Debian's package $2 has it"
     fi
+}
+
+version_of() { # PROGRAM
+    local words=(--version)
+    [ "$1" != busybox ] || words=()
+    "$1" "${words[@]}" 2>&1 | head -n 1
 }
 
 # --- a client, and what it says
@@ -118,11 +125,16 @@ told() { # NAME
 
 # It starts no script: it writes the lease into a file, and its steps into a log.
 told_networkd() {
-    local what=taken
-    grep -F 'DHCPv4 address and routes set.' "$work/said" | while read -r _; do
-        echo "$what $(lease_of_networkd)"
-        what=renewed
-    done
+    local what=taken line
+    while read -r line; do
+        case $line in
+            *'DHCPv4 client: DISCOVER') what=taken ;;
+            *'DHCPv4 address and routes set.')
+                echo "$what $(lease_of_networkd)"
+                what=renewed
+                ;;
+        esac
+    done <"$work/said"
 }
 
 lease_of_networkd() {

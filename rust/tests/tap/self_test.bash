@@ -34,7 +34,7 @@ ping's data: N replies have their pings' bytes
 no acknowledgement of a renewal: takes the lease anew
 a renewal's target: its socket hears no acknowledgement
 a renewal's lease: takes the lease anew
-a renewal's address: tap0 has the address 10.0.2.15/24 still
+a renewal's address: takes the lease anew
 a renewal's router: the default route goes to 10.0.2.2 still
 EOF
 }
