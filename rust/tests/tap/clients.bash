@@ -1,10 +1,10 @@
-# The DHCP clients of rust/tap-namespace, which reads this file. Each runs in namespaces of its own, with a TAP
-# device, a capture and a gateway for it alone.
+# The DHCP clients of rust/tap-namespace, which reads this file. Each runs in namespaces of its own, with a
+# TAP device, a capture and a gateway for it alone.
 
 networkd=/usr/lib/systemd/systemd-networkd
 
-# Into $clients those that are here, by name, and into $programs what they are. dhcpcd is there twice, since it
-# listens elsewhere when it is started for one link alone.
+# Into $clients those that are here, by name, and into $programs what they are. dhcpcd is there twice, since
+# it listens elsewhere when it is started for one link alone.
 find_clients() {
     clients=() programs=()
     find_client dhclient isc-dhcp-client dhclient
@@ -42,9 +42,9 @@ make_up_a_host() {
     [ ! -f /etc/machine-id ] || mount --bind /run/machine-id /etc/machine-id
 }
 
-# What a client starts when it has a lease. `tell` writes down what the client was told; `set`, for those that
-# leave this to their script, also sets address and route. dhclient and dhcpcd name things in one way, udhcpc in
-# another. Neither touches /etc/resolv.conf.
+# What a client starts when it has a lease. `tell` writes down what the client was told; `set`, for those
+# that leave this to their script, also sets address and route. dhclient and dhcpcd name things in one way,
+# udhcpc in another. Neither touches /etc/resolv.conf.
 write_hooks() {
     cat >"$work/tell" <<'EOF'
 #!/bin/sh
@@ -68,8 +68,8 @@ EOF
     chmod +x "$work/tell" "$work/set"
 }
 
-# dhclient: the gateway tells no time of renewal, so that it is half the lease; this client can be given another.
-# dhcpcd: a TAP device that its settings don't name it would leave alone.
+# dhclient: the gateway tells no time of renewal, so that it is half the lease; this client can be given
+# another. dhcpcd: a TAP device that its settings don't name it would leave alone.
 settings() { # NAME
     case $1,$renewal in
         dhclient,told) echo 'supersede dhcp-renewal-time 4;' ;;
@@ -117,8 +117,8 @@ end_client() { # at once: networkd would give its lease back
     wait "$client" 2>/dev/null || true
 }
 
-# What the client says it was told, a line for each lease: taken or renewed, address, mask, router, name server
-# and seconds.
+# What the client says it was told, a line for each lease: taken or renewed, address, mask, router, name
+# server and seconds.
 told() { # NAME
     if [ "$1" = networkd ]; then told_networkd; else cat "$work/told" 2>/dev/null || true; fi
 }
@@ -224,17 +224,18 @@ check_ping_of_client() {
 
 # --- its renewal
 
-# A client with a lease has a UDP socket at port 68, of any address or of the leased one alone. Linux hands the
-# latter no datagram for the network's broadcast address, where the gateway sends all its replies, and counts it
-# as unheard (IgnoredMulti). Such a client takes no acknowledgement of a renewal, asks again, and when 7/8 of
-# the lease are over, it asks all servers ("rebinding") and reads the answer from a packet socket, as it read the
-# first one: so it keeps the lease.
+# A client with a lease has a UDP socket at port 68, of any address or of the leased one alone. Linux hands
+# the latter no datagram for the network's broadcast address, where the gateway sends all its replies, and
+# counts it as unheard (IgnoredMulti). Such a client takes no acknowledgement of a renewal and asks again.
+# When 7/8 of the lease are over, it asks all servers ("rebinding") and reads the answer from a packet
+# socket, as it read the first one: so it keeps the lease.
 hears_no_broadcast() { # NAME
     [ "$1" = dhcpcd_of_one ] || [ "$1" = networkd ]
 }
 
 unheard_broadcasts() {
-    awk '/^Udp:/ && !at { for (at = NF; $at != "IgnoredMulti"; at--); next } /^Udp:/ { print $at }' /proc/net/snmp
+    awk '/^Udp:/ && !at { for (at = NF; $at != "IgnoredMulti"; at--); next }
+        /^Udp:/ { print $at }' /proc/net/snmp
 }
 
 ends_of_renewal() { # NAME: where its requests have to come from and go to
@@ -306,7 +307,8 @@ check_client() { # PROGRAM NETWORK NAME
     check_replies
 }
 
-start_clients() { # FOLDER PROGRAM NETWORK: all at once; what each leaves and prints is in a folder of its name
+# All at once. What each leaves and prints is in a folder of its name.
+start_clients() { # FOLDER PROGRAM NETWORK
     local name
     for name in "${clients[@]}"; do
         mkdir -p "$1/$name"
@@ -321,7 +323,7 @@ end_clients() { # FOLDER
     for name in "${clients[@]}"; do
         status=0
         wait "${running[$1/$name]}" || status=$?
-        [ "$status" = 0 ] || not_run "the checks of $name ended before their end: $(on_one_line <"$1/$name/checks")"
+        [ "$status" = 0 ] || not_run "the checks of $name have broken off: $(tail -n 3 "$1/$name/checks" | on_one_line)"
     done
 }
 

@@ -39,7 +39,7 @@ a renewal's router: the default route goes to 10.0.2.2 still
 EOF
 }
 
-# Of each check that passed (ok) or failed (FAIL) its client and its name, with an N for a number that differs.
+# Of each check that passed (ok) or failed (FAIL) its client and its name, with an N where numbers differ.
 checks() { # ok or FAIL, FOLDER
     sed -nE "/^$1 / {
         s/^[^ ]+ +//
@@ -55,11 +55,12 @@ clients_with() { # CHECK, the beginning of its name; reads client and check
 }
 
 check_fault() { # FAULT CHECK FOLDER
-    same "$1: under it fails '$2'" "$(checks FAIL "$3" | clients_with "$2")" "$(clients_with "$2" <"$work/all")"
+    same "$1: under it fails '$2'" \
+        "$(checks FAIL "$3" | clients_with "$2")" "$(clients_with "$2" <"$work/all")"
     checks FAIL "$3" >>"$work/failed"
 }
 
-# The frames that tcpdump says it dropped are none of the gateway's.
+# Whether tcpdump lost a frame is nothing that a gateway can do wrong.
 checks_without_fault() {
     grep -v ': the capture lacks no frame$' "$work/all" | grep -vxFf "$work/failed"
 }
@@ -87,5 +88,6 @@ run_self_test() { # PROGRAM WRONG_PROGRAM
     same "no fault: all checks pass" "$(checks FAIL "$work/right")" ""
     checks ok "$work/right" >"$work/all"
     check_faults "$2"
-    same "each check of each client has failed under a fault, but for the capture's own" "$(checks_without_fault)" ""
+    same "each check of each client has failed under a fault, but for the capture's own" \
+        "$(checks_without_fault)" ""
 }
