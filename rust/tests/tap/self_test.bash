@@ -3,15 +3,16 @@
 
 at_once=3 # faults
 
-# A fault, and a check that has to fail under it for every client that makes it.
+# A fault, and the checks that have to fail under it for every client that makes them: how their names begin,
+# or with a $ the whole name.
 faults() {
     cat <<'EOF'
 no gateway: the gateway serves tap0
 status: SIGTERM ends the gateway
 tally: the gateway's tally
 another link: the namespace has no link but lo and tap0
-ports 68 to 67: takes the lease,
-ports 67 to 67: takes the lease,
+ports 68 to 67: takes the lease,; behind each of its messages
+ports 67 to 67: takes the lease,; behind each of its messages
 ports 68 to 68: behind each of its messages
 target: behind each of its messages
 header sum: tcpdump finds no wrong checksum
@@ -21,9 +22,9 @@ client's MAC: offer and acknowledgement as tcpdump reads them
 message type: asks once and is answered
 no offer: asks once and is answered
 no acknowledgement: N requests for ARP, ping and DHCP
-address: tap0 has the address
-mask: tap0 has the address
-router: the default route goes to
+address: tap0 has the address 10.0.2.15/24$; the pings come from
+mask: tap0 has the address 10.0.2.15/24$
+router: the default route goes to 10.0.2.2$
 name server: takes the lease,
 lease: takes the lease,
 server: asks for its lease anew
@@ -35,7 +36,8 @@ no acknowledgement of a renewal: takes the lease anew
 a renewal's target: its socket hears no acknowledgement
 a renewal's lease: takes the lease anew
 a renewal's address: takes the lease anew
-a renewal's router: the default route goes to 10.0.2.2 still
+a renewal's mask: takes the lease anew; tap0 has the address 10.0.2.15/24 still
+a renewal's router: takes the lease anew; the default route goes to 10.0.2.2 still
 EOF
 }
 
@@ -50,23 +52,26 @@ checks() { # ok or FAIL, FOLDER
     }" "$2"/*/checks
 }
 
-clients_with() { # CHECK, the beginning of its name; reads client and check
-    grep -F ": $1" | sed 's/:.*//' | sort -u
+clients_with() { # CHECK; reads client and check
+    grep ": $1" | sed 's/:.*//' | sort -u
 }
 
-check_fault() { # FAULT CHECK FOLDER
-    same "$1: under it fails '$2'" \
-        "$(checks FAIL "$3" | clients_with "$2")" "$(clients_with "$2" <"$work/all")"
-    checks FAIL "$3" >>"$work/failed"
+check_fault() { # FAULT FOLDER CHECK...
+    local check
+    for check in "${@:3}"; do
+        same "$1: under it fails '$check'" \
+            "$(checks FAIL "$2" | clients_with "$check")" "$(clients_with "$check" <"$work/all")"
+        echo ": $check" >>"$work/named"
+    done
 }
 
 # Whether tcpdump lost a frame is nothing that a gateway can do wrong.
 checks_without_fault() {
-    grep -v ': the capture lacks no frame$' "$work/all" | grep -vxFf "$work/failed"
+    grep -v ': the capture lacks no frame$' "$work/all" | grep -vf "$work/named"
 }
 
 check_faults() { # WRONG_PROGRAM
-    local lines first line folder
+    local lines first line folder checks
     readarray -t lines < <(faults)
     for ((first = 0; first < ${#lines[@]}; first += at_once)); do
         for line in "${lines[@]:first:at_once}"; do
@@ -75,7 +80,8 @@ check_faults() { # WRONG_PROGRAM
         for line in "${lines[@]:first:at_once}"; do
             folder="$work/${line%%:*}"
             end_clients "$folder"
-            check_fault "${line%%:*}" "${line#*: }" "$folder"
+            readarray -t checks < <(sed 's/^[^:]*: //; s/; /\n/g' <<<"$line")
+            check_fault "${line%%:*}" "$folder" "${checks[@]}"
             rm -r "$folder"
         done
     done
@@ -88,6 +94,6 @@ run_self_test() { # PROGRAM WRONG_PROGRAM
     same "no fault: all checks pass" "$(checks FAIL "$work/right")" ""
     checks ok "$work/right" >"$work/all"
     check_faults "$2"
-    same "each check of each client has failed under a fault, but for the capture's own" \
+    same "each check of a client has a fault under which it fails, but for the capture's own" \
         "$(checks_without_fault)" ""
 }

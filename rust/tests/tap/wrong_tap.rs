@@ -1,4 +1,4 @@
-//! The example `tap` with a fault around the gateway: a wrong gateway, under which the checks of
+//! The example `tap` with a fault around the gateway: a wrong one, under which the checks of
 //! `rust/tap-namespace` have to fail. `rust/tap-namespace --self-test` runs it.
 //!
 //!     FAULT=name wrong_tap NAME [GATEWAY GUEST MASK [LEASE]]
@@ -128,6 +128,7 @@ impl Guest {
             "lease" => reply[LEASE + 3] ^= 1,
             "a renewal's lease" if is_renewal(frame) => reply[LEASE + 3] ^= 1,
             "a renewal's address" if is_renewal(frame) => reply[YOUR_ADDRESS + 3] ^= 1,
+            "a renewal's mask" if is_renewal(frame) => reply[MASK + 3] ^= 0x80,
             "a renewal's router" if is_renewal(frame) => reply[ROUTER + 3] ^= 1,
             _ => {}
         }
