@@ -264,15 +264,16 @@ await_renewal() { # NAME
 }
 
 check_renewal() { # NAME
-    local unheard expected="renewed $guest $mask $gateway $gateway $lease"
+    local unheard ends expected="renewed $guest $mask $gateway $gateway $lease"
     if [ "$1,$renewal" = networkd,told ]; then
         note "is told to renew over D-Bus alone, which isn't here: it does so where the lease is short"
         return
     fi
+    ends=$(ends_of_renewal "$1")
     unheard=$(unheard_broadcasts)
     await_renewal "$1"
-    same "asks for its lease anew" "$(messages_of_renewal | sed -n 's/ 0x.* Request$//p' | uniq)" \
-        "$(ends_of_renewal "$1")"
+    same "asks for its lease anew, $(on_one_line <<<"$ends")" \
+        "$(messages_of_renewal | sed -n 's/ 0x.* Request$//p' | uniq)" "$ends"
     if hears_no_broadcast "$1"; then
         same "its socket hears no acknowledgement" "$(($(unheard_broadcasts) - unheard)) unheard" \
             "$(messages_of_renewal | grep ' ACK$' | wc -l | sed 's/^0$/1 or more/') unheard"
