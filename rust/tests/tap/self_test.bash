@@ -46,7 +46,7 @@ checks() { # ok or FAIL, FOLDER
     sed -nE "/^$1 / {
         s/^[^ ]+ +//
         s/: it is '.*//
-        s/([0-9]+|one or more) (requests|replies)/N \2/
+        s/: ([0-9]+|one or more) (requests|replies)/: N \2/
         s/ to [0-9]+\$/ to N/
         p
     }" "$2"/*/checks
@@ -60,7 +60,8 @@ check_fault() { # FAULT FOLDER CHECK...
     local check
     for check in "${@:3}"; do
         same "$1: under it fails '$check'" \
-            "$(checks FAIL "$2" | clients_with "$check")" "$(clients_with "$check" <"$work/all")"
+            "$(checks FAIL "$2" | clients_with "$check")" \
+            "$(clients_with "$check" <"$work/all" | grep . || echo one client or more)"
         echo ": $check" >>"$work/named"
     done
 }
