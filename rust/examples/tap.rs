@@ -44,7 +44,8 @@ const USAGE: &str = "usage: tap NAME [GATEWAY GUEST MASK [LEASE]]
   MASK   as an address, or the number of its ones
   LEASE  in seconds";
 
-fn main() -> ExitCode {
+// Not private, since tests/tap/wrong_tap.rs runs it around a wrong gateway.
+pub fn main() -> ExitCode {
     let words: Vec<String> = env::args().skip(1).collect();
     let words: Vec<&str> = words.iter().map(String::as_str).collect();
     let (name, new_guest) = match asked(&words) {
