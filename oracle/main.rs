@@ -1,6 +1,7 @@
 //! The driver: calls the published Rust and prints what it answers, on document 01's network or on the
-//! other one that it was compiled for.
+//! other one that it was compiled for. A DHCP reply has the ports of document 02 (`amended.rs`).
 
+mod amended;
 mod ask_dhcp;
 mod ask_gateway;
 mod builder_vectors;
