@@ -18,6 +18,8 @@ mod gateway_dhcp;
 mod gateway_sequences;
 mod gateway_vectors;
 mod guest_frames;
+mod lease_vectors;
+mod leases;
 mod lines;
 mod network_vectors;
 mod networks;
@@ -25,7 +27,12 @@ mod pieces;
 #[allow(dead_code)]
 mod the_rust;
 
+/// `oracle`: the vectors. `oracle leases`: instead the calls of captured exchanges on this network.
 fn main() {
+    if std::env::args().nth(1).as_deref() == Some("leases") {
+        print!("{}", lease_vectors::list());
+        return;
+    }
     if networks::NUMBER != 0 {
         print!("{}", network_vectors::list());
         return;
