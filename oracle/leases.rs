@@ -5,7 +5,7 @@ use crate::networks::{NETWORKS, Network};
 
 const CAPTURED: &str = include_str!("leases_captured.txt");
 
-#[derive(Clone, Copy, PartialEq)]
+#[derive(Clone, Copy, PartialEq, Eq, Hash)]
 pub enum Sender {
     Guest,
     Gateway,
@@ -31,7 +31,7 @@ impl Exchange {
 pub fn exchanges() -> Vec<Exchange> {
     let mut exchanges: Vec<Exchange> = vec![];
     let mut words = "";
-    for line in CAPTURED.lines().filter(|line| !line.is_empty()) {
+    for line in CAPTURED.lines().filter(|line| !["", "#"].contains(line)) {
         let (first, rest) = line.split_once(' ').expect("a word and what it is about");
         match first {
             "#" => words = rest,
