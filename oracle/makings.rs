@@ -108,7 +108,8 @@ fn main() {
 
 /// All of them are good.
 fn networks(list: &mut List) {
-    for network in NETWORKS[..COMPARED].iter().map(|constants| constants.network) {
+    let compared = &NETWORKS[..COMPARED];
+    for network in compared.iter().map(|constants| constants.network) {
         for lease in LEASES.into_iter().chain([Some(network.lease)]) {
             let asked = Asked {
                 gateway: network.gateway,

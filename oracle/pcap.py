@@ -12,9 +12,9 @@ FILE_HEAD, FRAME_HEAD = 24, 16
 def frames(path):
     """The frames of a file, in its order."""
     data = pathlib.Path(path).read_bytes()
-    first = {order: struct.unpack(order + "I", data[:4])[0] for order in "<>"} if len(data) >= FILE_HEAD else {}
-    order = next((order for order in first if first[order] in (MICROSECONDS, NANOSECONDS)), None)
-    if order is None or struct.unpack(order + "I", data[20:24])[0] != ETHERNET:
+    firsts = {struct.pack(order + "I", unit): order for order in "<>" for unit in (MICROSECONDS, NANOSECONDS)}
+    order = firsts.get(data[:4])
+    if order is None or data[20:24] != struct.pack(order + "I", ETHERNET):
         sys.exit(f"{path} is no pcap file of Ethernet frames")
     at, found = FILE_HEAD, []
     while at < len(data):

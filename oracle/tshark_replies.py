@@ -21,7 +21,9 @@ udp.dstport udp.checksum.status dhcp.type dhcp.id dhcp.option.dhcp dhcp.option.e
 _ws.malformed _ws.expert""".split()
 DISCOVER, OFFER, REQUEST, ACK = "1", "2", "3", "5"
 ANSWERED_BY = {DISCOVER: OFFER, REQUEST: ACK}
+# How tshark names them, and how they are counted here.
 NAMED = {OFFER: "DHCP Offer ", ACK: "DHCP ACK "}
+DHCP_KINDS = {OFFER: "DHCP offer", ACK: "DHCP acknowledgement"}
 
 
 def stored():
@@ -45,7 +47,7 @@ def of_capture(path):
 
 
 def asked(said):
-    """What the guest's frame asks for, in a form that `answered` gives of the reply; None where it is nothing."""
+    """What the guest's frame asks for, as `answered` tells it of the reply; None where it is nothing."""
     if said["arp.opcode"] == "1":
         return "ARP", said["arp.dst.proto_ipv4"]
     if said["icmp.type"] == "8":
@@ -78,7 +80,7 @@ def answered(said):
 
 
 def complaints(frames):
-    """What tshark's reading of an exchange says against our replies; and how many it reads well, by kind."""
+    """How many of our replies in an exchange tshark reads well, by kind; and what it says against others."""
     waiting, good, bad = Counter(), Counter(), []
     for frame, said in zip(frames, dissected(frames, FIELDS)):
         if frame[6:12] != GATEWAY:
@@ -93,7 +95,7 @@ def complaints(frames):
         if wrong:
             bad.append((frame, wrong))
         else:
-            good["an " + {OFFER: "offer", ACK: "acknowledgement"}[answer[2]] if answer[0] == "DHCP" else answer[0]] += 1
+            good[DHCP_KINDS[answer[2]] if answer[0] == "DHCP" else answer[0]] += 1
     leases = [left for left in waiting if left and left[0] == "DHCP" and waiting[left] > 0]
     return good, bad + [(b"", {"a DHCP message without its answer": left}) for left in leases]
 
@@ -107,9 +109,10 @@ def are_good(exchanges):
         every_bad += len(bad)
         for frame, wrong in bad:
             print(f"our reply, {words}: tshark says {wrong} of {frame[:80].hex()}")
-    kinds = ", ".join(f"{count} {kind}" for kind, count in sorted(every_good.items()))
-    print(f"our replies to real guests: {sum(every_good.values())} read well by tshark ({kinds}), {every_bad} not")
-    return every_bad == 0 and sum(every_good.values()) > 0
+    kinds = ", ".join(f"{kind} {count}" for kind, count in sorted(every_good.items()))
+    total = sum(every_good.values())
+    print(f"our replies to real guests: {total} read well by tshark ({kinds}), {every_bad} not")
+    return every_bad == 0 and total > 0
 
 
 def flipped(frame, place, bit=1):
@@ -135,12 +138,17 @@ def resummed(frame):
     return frame[:24] + struct.pack("!H", 0xFFFF - total) + frame[26:]
 
 
+def with_ports(source, target):
+    ports = struct.pack("!HH", source, target)
+    return lambda frame: frame[:34] + ports + frame[38:]
+
+
 # Each way to spoil a reply: of which frames, and how.
 WAYS = {
-    "ports as they were, 68 to 67": (is_udp, lambda frame: frame[:34] + bytes([0, 68, 0, 67]) + frame[38:]),
-    "67 to 67": (is_udp, lambda frame: frame[:36] + bytes([0, 67]) + frame[38:]),
-    "68 to 68": (is_udp, lambda frame: frame[:34] + bytes([0, 68]) + frame[36:]),
-    "another port that DHCP does not have": (is_udp, lambda frame: frame[:34] + bytes([1, 67, 1, 68]) + frame[38:]),
+    "ports as they were, 68 to 67": (is_udp, with_ports(68, 67)),
+    "67 to 67": (is_udp, with_ports(67, 67)),
+    "68 to 68": (is_udp, with_ports(68, 68)),
+    "ports that DHCP does not have": (is_udp, with_ports(323, 324)),
     "the type of another message": (is_udp, lambda frame: flipped(frame, 42 + 242, 7)),
     "the type of no reply": (is_udp, lambda frame: flipped(frame, 42 + 242, 8)),
     "another xid": (is_udp, lambda frame: flipped(frame, 42 + 4)),
@@ -154,21 +162,21 @@ WAYS = {
     "a wrong IPv4 checksum": (is_udp, lambda frame: flipped(frame, 25)),
     "another protocol": (is_udp, lambda frame: resummed(flipped(frame, 23, 2))),
     "a byte behind the end": (is_udp, lambda frame: frame + b"\0"),
-    "a ping with the ports of DHCP in it": (is_ping, lambda frame: frame[:34] + bytes([0, 67, 0, 68]) + frame[38:]),
+    "a ping with the ports of DHCP in it": (is_ping, with_ports(67, 68)),
     "a wrong ICMP checksum": (is_ping, lambda frame: flipped(frame, 37)),
     "an ARP reply that asks": (lambda frame: frame[13] == 6, lambda frame: flipped(frame, 21, 3)),
 }
 
 
 def finds_each_spoiled_way():
-    """Whether each way of spoiling the replies of the stored exchanges is found, wherever it can be put in."""
+    """Whether each way of spoiling a reply is found, in every stored exchange that has one to spoil."""
     missed = 0
     for way, (is_meant, spoil) in WAYS.items():
         places = found = 0
         for _, frames in stored():
             for turn, frame in enumerate(frames):
                 if frame[6:12] == GATEWAY and is_meant(frame):
-                    # The first of an exchange is enough: tshark is asked for a whole exchange each time.
+                    # The first of an exchange is enough: tshark reads the whole exchange each time.
                     places += 1
                     _, bad = complaints([*frames[:turn], spoil(frame), *frames[turn + 1 :]])
                     found += bad != []
