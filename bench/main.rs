@@ -1,5 +1,7 @@
 //! Times the published Rust and the proved library in one process: bench/run says how it is run.
 
+#[path = "../oracle/amended.rs"]
+mod amended;
 mod callgrind;
 #[allow(dead_code)]
 #[path = "../oracle/draws.rs"]

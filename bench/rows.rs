@@ -5,6 +5,7 @@ use std::hint::black_box;
 use published::handed::{self, To};
 use published::{NetworkBackend, SlirpBackend};
 
+use crate::amended::pushed;
 use crate::draws::{GUEST_IP, GUEST_MAC};
 use crate::guest_frames::{ELSEWHERE, dns_query};
 use crate::inputs;
@@ -159,12 +160,13 @@ fn send(guest: &mut Guest, frame: &[u8], reply: &mut [u8], values: &mut [usize; 
     unsafe { ours::yavoledu_send(guest, frame.as_ptr(), frame.len(), at, room, values) }
 }
 
-/// From the same record both do what this verdict says, with the same bytes, numbers and record.
+/// From the same record both do what this verdict says, with the same bytes but for the ports of a DHCP reply
+/// (oracle/amended.rs), and the same numbers and record.
 fn assert_same_deed(name: &str, frame: &[u8], verdict: u32) {
     let ids = IdCounter::new();
     let mut backend = SlirpBackend::new(GUEST_MAC);
     backend.send(frame);
-    let (received, handed) = (backend.recv(), handed::take());
+    let (received, handed) = (pushed(&mut backend), handed::take());
 
     let (mut guest, mut reply, mut values) = (new_guest(ids.next()), vec![0xa5; ROOM], [0; 2]);
     let number = send(&mut guest, frame, &mut reply, &mut values);

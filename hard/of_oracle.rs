@@ -2,6 +2,9 @@
 // the published Rust. They name each other from the crate's root, so each program here takes this file in whole.
 
 #[allow(dead_code)]
+#[path = "../oracle/amended.rs"]
+mod amended;
+#[allow(dead_code)]
 #[path = "../oracle/ask_dhcp.rs"]
 mod ask_dhcp;
 #[allow(dead_code)]

@@ -1,8 +1,10 @@
-//! The Rust's gateway, asked: what it does with one frame, and whose answer a line about it holds.
+//! The Rust's gateway, asked: what it does with one frame, and whose answer a line about it holds. What it
+//! sends back is read as it has to be with us (`amended.rs`).
 
 use published::handed::{self, To};
 use published::{NetworkBackend, SlirpBackend};
 
+use crate::amended::pushed;
 use crate::ask_dhcp::place_of_cut;
 use crate::document_01::{self, Answer, Record, Verdict};
 use crate::guest_frames::{BODY_AT, DATA_AT, PAYLOAD_AT, TOTAL_LENGTH_AT, xid_bringer};
@@ -12,7 +14,7 @@ use crate::the_rust::{IdCounter, half_word, is_ipv4, text_of_panic};
 /// Whose answer a line holds.
 #[derive(Clone, Copy, Debug, PartialEq, Eq, PartialOrd, Ord)]
 pub enum Whose {
-    /// The Rust's own, and document 01's too.
+    /// The Rust's own, as `amended.rs` reads it, and document 01's too.
     TheRust = 0,
     /// Document 01's, and the Rust panics.
     WherePanics = 1,
@@ -125,7 +127,7 @@ impl Gateway {
         assert_eq!(handed::take(), []);
         let sent = text_of_panic(|| self.backend.send(frame));
         let handed = handed::take();
-        let received = self.backend.recv();
+        let received = pushed(&mut self.backend);
         assert_eq!(self.backend.recv(), None);
         match (sent, &handed[..], received) {
             (Ok(()), [], None) => Deed::Nothing,

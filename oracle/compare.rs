@@ -1,6 +1,7 @@
 //! The comparison of the published Rust with the proved code, on the network that both are compiled for:
-//! oracle/compare says how it is run.
+//! oracle/compare says how it is run. The one exception from equality is `amended.rs`.
 
+mod amended;
 #[allow(dead_code)]
 mod ask_dhcp;
 #[allow(dead_code)]

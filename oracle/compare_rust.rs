@@ -1,8 +1,10 @@
-//! The Rust's side of the comparison: what it does with one frame, and what that says of our answer.
+//! The Rust's side of the comparison: what it does with one frame, and what that says of our answer. Of
+//! what it sends back, `amended.rs` says what it has to be with us.
 
 use published::handed::{self, To};
 use published::{NetworkBackend, SlirpBackend};
 
+use crate::amended::pushed;
 use crate::ask_gateway::Whose;
 use crate::document_01::{Answer, Record, Verdict};
 use crate::guest_frames::{DATA_AT, PAYLOAD_AT, xid_bringer};
@@ -110,7 +112,7 @@ impl TheRust {
         let handed = handed::take();
         // Our verdict does not say who asked.
         handed::take_askers();
-        let received = self.backend.recv();
+        let received = pushed(&mut self.backend);
         if self.backend.recv().is_some() {
             return Err("the Rust sent two frames".to_string());
         }

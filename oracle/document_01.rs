@@ -1,6 +1,7 @@
 //! Document 01's answer to one call, read from its text a second time and not from the Rust: the
 //! order of tests on a guest's frame, the frames built, and the record. Addresses, mask and lease time
-//! are the record's, as document 02's request 1/13 has it.
+//! are the record's, as document 02's request 1/13 has it, and a DHCP reply goes from 67 to 68, as 2/13 has
+//! it ("The reply's UDP header becomes 00 43 00 44").
 
 use crate::draws::GATEWAY_MAC;
 use crate::networks::Network;
@@ -153,7 +154,7 @@ fn dhcp(record: Record, frame: &[u8], data: &[u8], room: usize) -> Answer {
         Err(place) => return without_reply(record, Verdict::CutType(place)),
     };
     let message = dhcp_reply(taken, reply_type);
-    let udp = [&[0, 68, 0, 67, 1, 52, 0, 0], &message[..]].concat();
+    let udp = [&[0, 67, 0, 68, 1, 52, 0, 0], &message[..]].concat();
     let target = broadcast(record.network);
     let reply = ip_frame(record, &frame[6..12], &target, 17, &udp);
     built(record, with_id_spent(taken), reply, room)

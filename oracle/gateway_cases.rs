@@ -29,8 +29,9 @@ pub struct GatewayList {
     pub draws: Draws,
     pub lines: Lines,
     rust: Gateway,
-    /// The record that the last call left.
+    /// The record that the last call left, and what was sent back.
     record: Record,
+    reply: Vec<u8>,
     counts: BTreeMap<(Whose, u8), usize>,
     in_group: BTreeMap<Whose, usize>,
 }
@@ -42,6 +43,7 @@ impl GatewayList {
             lines: Lines::new(),
             rust: Gateway::new(),
             record: FRESH,
+            reply: vec![],
             counts: BTreeMap::new(),
             in_group: BTreeMap::new(),
         }
@@ -117,6 +119,11 @@ impl GatewayList {
         self.record
     }
 
+    #[allow(dead_code)] // by oracle/lease-vectors alone
+    pub fn reply(&self) -> &[u8] {
+        &self.reply
+    }
+
     fn add(
         &mut self,
         kind: u8,
@@ -130,6 +137,7 @@ impl GatewayList {
         let line = call_line(kind, before, frame, room, answer, whose);
         self.lines.add(kind, Some(number), &line);
         self.record = answer.after;
+        self.reply.clone_from(&answer.reply);
         *self.counts.entry((whose, number)).or_default() += 1;
         *self.in_group.entry(whose).or_default() += 1;
         answer.verdict

@@ -1,6 +1,7 @@
 //! The driver: calls the published Rust and prints what it answers, on document 01's network or on the
-//! other one that it was compiled for.
+//! other one that it was compiled for. A DHCP reply has the ports of document 02 (`amended.rs`).
 
+mod amended;
 mod ask_dhcp;
 mod ask_gateway;
 mod builder_vectors;
@@ -17,6 +18,8 @@ mod gateway_dhcp;
 mod gateway_sequences;
 mod gateway_vectors;
 mod guest_frames;
+mod lease_vectors;
+mod leases;
 mod lines;
 mod network_vectors;
 mod networks;
@@ -24,7 +27,12 @@ mod pieces;
 #[allow(dead_code)]
 mod the_rust;
 
+/// `oracle`: the vectors. `oracle leases`: instead the calls of captured exchanges on this network.
 fn main() {
+    if std::env::args().nth(1).as_deref() == Some("leases") {
+        print!("{}", lease_vectors::list());
+        return;
+    }
     if networks::NUMBER != 0 {
         print!("{}", network_vectors::list());
         return;

@@ -12,7 +12,7 @@ mod networks;
 use draws::Draws;
 use lines::{Lines, hex};
 use making_02::{Asked, made};
-use networks::NETWORKS;
+use networks::{COMPARED, NETWORKS};
 
 const SEED: u64 = 0x2127_599b_f432_5c37;
 
@@ -108,7 +108,8 @@ fn main() {
 
 /// All of them are good.
 fn networks(list: &mut List) {
-    for network in NETWORKS.map(|constants| constants.network) {
+    let compared = &NETWORKS[..COMPARED];
+    for network in compared.iter().map(|constants| constants.network) {
         for lease in LEASES.into_iter().chain([Some(network.lease)]) {
             let asked = Asked {
                 gateway: network.gateway,

@@ -35,7 +35,7 @@ const fn constants(
 }
 
 #[rustfmt::skip]
-pub const NETWORKS: [Constants; 9] = [
+pub const NETWORKS: [Constants; 11] = [
     constants([10, 0, 2, 2], [10, 0, 2, 15], [255, 255, 255, 0], [10, 0, 2, 255], 86_400),
     constants([10, 0, 0, 1], [10, 255, 255, 254], [255, 0, 0, 0], [10, 255, 255, 255], 0),
     constants([172, 16, 255, 254], [172, 16, 0, 1], [255, 255, 0, 0], [172, 16, 255, 255], 4_294_967_295),
@@ -45,12 +45,26 @@ pub const NETWORKS: [Constants; 9] = [
     constants([198, 51, 100, 5], [198, 51, 100, 6], [255, 255, 255, 252], [198, 51, 100, 7], 86_401),
     constants([10, 0, 2, 129], [10, 0, 2, 254], [255, 255, 255, 128], [10, 0, 2, 255], 65_536),
     constants([240, 0, 0, 2], [240, 15, 255, 253], [255, 240, 0, 0], [240, 15, 255, 255], 2_147_483_648),
+    constants([192, 168, 77, 1], [192, 168, 77, 9], [255, 255, 255, 192], [192, 168, 77, 63], 1_800),
+    constants([10, 0, 2, 2], [10, 0, 2, 15], [255, 255, 255, 0], [10, 0, 2, 255], 20),
 ];
+
+/// Every list and every comparison is about the first ones. On the last two, the others of
+/// rust/tap-namespace and rust/real-guest, real guests were captured, and only their exchanges are there.
+#[allow(dead_code)] // by most programs
+pub const COMPARED: usize = 9;
 
 pub const NUMBER: usize = match option_env!("NETWORK") {
     None => 0,
-    Some(digit) => (digit.as_bytes()[0] - b'0') as usize,
+    Some(digits) => number(digits.as_bytes()),
 };
+
+const fn number(digits: &[u8]) -> usize {
+    match digits {
+        [before @ .., last] => 10 * number(before) + (*last - b'0') as usize,
+        [] => 0,
+    }
+}
 
 /// The network of this program.
 pub const HERE: Network = NETWORKS[NUMBER].network;

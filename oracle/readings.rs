@@ -10,6 +10,8 @@ mod grammar_01;
 #[allow(dead_code)]
 mod guest_frames;
 #[allow(dead_code)]
+mod leases;
+#[allow(dead_code)]
 mod lines;
 mod mended;
 #[allow(dead_code)]
@@ -20,6 +22,7 @@ mod reading_cases;
 mod readings_captured;
 mod readings_damaged;
 mod readings_drawn;
+mod readings_leases;
 mod readings_lengths;
 mod readings_options;
 mod readings_own;
@@ -40,6 +43,7 @@ fn main() {
         return;
     }
     readings_captured::list(&mut list);
+    readings_leases::list(&mut list);
     readings_damaged::list(&mut list);
     readings_sums::list(&mut list);
     readings_lengths::list(&mut list);

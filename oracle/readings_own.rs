@@ -50,6 +50,15 @@ fn cases() -> Vec<Vec<u8>> {
         .collect()
 }
 
+/// The kind of a reply of the gateway's.
+pub fn kind_of(reply: &[u8]) -> Kind {
+    match (reply[13], reply[23]) {
+        (6, _) => Kind::Arp,
+        (_, 1) => Kind::Icmp,
+        _ => Kind::Dhcp,
+    }
+}
+
 /// All of ARP, and of the others some.
 fn replies(list: &mut ReadingList) {
     let (mut dhcp_replies, mut echoes) = (0, 0);
@@ -63,11 +72,7 @@ fn replies(list: &mut ReadingList) {
             continue;
         };
         let ends_in_zeros = reply.iter().rev().take(100).all(|byte| *byte == 0);
-        let kind = match (reply[13], reply[23]) {
-            (6, _) => Kind::Arp,
-            (_, 1) => Kind::Icmp,
-            _ => Kind::Dhcp,
-        };
+        let kind = kind_of(&reply);
         dhcp_replies += usize::from(kind == Kind::Dhcp);
         echoes += usize::from(kind == Kind::Icmp);
         let is_listed = match kind {
