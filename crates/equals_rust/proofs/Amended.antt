@@ -1,11 +1,11 @@
 -- What is amended of a frame that the Rust pushed is the serverToClient of a UDP frame and nothing else; and the Rust's DHCP reply, so amended, is ours.
 use Prim.Native.Nat.{ℕ, _+_, _≤_, _<_}
-use mathlib.Core.Bool.{Bool, true, false, _&&_}
+use mathlib.Core.Bool.{true, false}
 use mathlib.Core.List.{List, [], _∷_, _++_, append-assoc}
-use mathlib.Core.Path.{_≡_, refl, ap, _∙_}
+use mathlib.Core.Path.{_≡_, refl, _∙_}
 use native.Mathlib.Omega.{arith}
-use borrow.Author.Tests.{leb-true, leb-false, eq-eqb, ne-eqb}
-use lib.Dec.{leb, eqb}
+use borrow.Author.Tests.{leb-true, leb-false, eq-eqb}
+use lib.Dec.{leb}
 use lib.ListN.{length, getD, drop}
 use lib.Seq.{drop-drop, take-at, drop-at}
 use Rattle.arp_reply.proofs.ReadBack.{arp-reads-back}
@@ -24,8 +24,7 @@ use Rattle.record.specs.Network.{broadcastOf}
 use Rattle.record.specs.declared.guest.Guest.{Guest}
 use Rattle.record.specs.declared.network.Network.{Network}
 use Rattle.wire.specs.Rfc768.{datagram, datagramHeader}
-use Rattle.wire.specs.Rfc791.{protocolOf}
-use Rattle.wire.specs.Rfc894.{body, typeOf, sourceMac}
+use Rattle.wire.specs.Rfc894.{sourceMac}
 use Rattle.equals_rust.specs.Amended.{carriesUdp, serverToClient, amended}
 
 module _ (frame : List ℕ) where
@@ -72,7 +71,7 @@ pub icmp-other : {frame mac source target payload : List ℕ} {id : ℕ} → Fra
 unfolding carriesUdp
 icmp-other f = rw (f .type, f .packet .protocol-is)
 
--- a datagram behind 34 bytes, with its serverToClient exchanged
+-- a datagram behind 34 bytes, with its ports exchanged
 exchanged : (front body : List ℕ) (len : ℕ) → length front ≡ 34
     → put 34 serverToClient (front ++ (datagramHeader 68 67 len ++ body)) ≡ front ++ (datagramHeader 67 68 len ++ body)
 unfolding put

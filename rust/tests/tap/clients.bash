@@ -151,13 +151,6 @@ has_told() { # NAME WHAT
 
 # --- the messages
 
-# Of each message its ends, its xid and its type.
-dhcp_messages() {
-    captured 'udp port 67' -vv | sed -nE '
-        /BOOTP/ { s/^ *([0-9.]+ > [0-9.]+): .* xid (0x[0-9a-f]+).*/\1 \2/; h; }
-        /DHCP-Message/ { s/.*: //; H; x; s/\n/ /; p; }'
-}
-
 messages_of_renewal() {
     dhcp_messages | tail -n +5
 }
