@@ -39,7 +39,7 @@ build_example() { # NAME: its path is printed
     echo "$rust/target/release/examples/$1"
 }
 
-within() { # SECONDS COMMAND...: whether it succeeds in this time
+within() { # SECONDS COMMAND...: whether it succeeds, tried for this time or, where a try takes long, longer
     local tries
     for ((tries = 0; tries < 10 * $1; tries++)); do
         if "${@:2}"; then return 0; fi

@@ -20,7 +20,7 @@ use Rattle.wire.specs.Rfc894.{sourceMac}
 pub record AnswersDhcp (answer : List ℕ) (guest : Guest) (frame : List ℕ) (xid type : ℕ) : Type 0 where
   pub framed : FrameOf answer (sourceMac frame) (guest .network .gateway) (broadcastOf (guest .network)) (guest .id) 17 (datagram replySource replyTarget (reply (guest .network) (guest .mac) xid type))
   pub long : length answer ≡ 342
-  -- RFC 2131, section 4.1: from the server's port, 67, to the client's, 68
+  -- RFC 2131, section 4.1: to the client's port, 68; document 02, 2/13: from the server's, 67
   pub in-datagram : DatagramOf (drop 34 answer) 67 68
   pub message : ReplyOf (drop 42 answer) (guest .network) (guest .mac) xid type
 

@@ -12,7 +12,7 @@ use wire::ethernet;
 use wire::ipv4;
 use wire::udp;
 
-// RFC 2131, section 4.1: from the server's port to the client's. The Rust has them the other way round (docs/DIFFERENCES.md).
+// Document 02, 2/13: from the server's port to the client's. The Rust has them the other way round (docs/DIFFERENCES.md).
 const REPLY_SOURCE: u16 = udp::DHCP_SERVER;
 
 const REPLY_TARGET: u16 = udp::DHCP_CLIENT;

@@ -1,4 +1,4 @@
--- What is amended of a frame that the Rust pushed is the serverToClient of a UDP frame and nothing else; and the Rust's DHCP reply, so amended, is ours.
+-- What is amended of a frame that the Rust pushed is the ports of a UDP frame and nothing else; and the Rust's DHCP reply, so amended, is ours.
 use Prim.Native.Nat.{ℕ, _+_, _≤_, _<_}
 use mathlib.Core.Bool.{true, false}
 use mathlib.Core.List.{List, [], _∷_, _++_, append-assoc}
@@ -92,7 +92,7 @@ module _ (guest : Guest) (frame : List ℕ) (xid type : ℕ) (sized : Sized gues
   unfolding rustLease
   framed = frame-of (sourceMac frame) (guest .network .gateway) (broadcastOf (guest .network)) (guest .id) 17 (datagram 68 67 message) refl (sized .network .gateway) refl
 
-  -- its serverToClient are 68 and 67
+  -- its ports are 68 and 67
   pub lease-ports : DatagramOf (drop 34 (rustLease guest frame xid type)) 68 67
   lease-ports = rw (framed .carried) (datagram-reads-back 68 67 message)
 

@@ -56,8 +56,13 @@ clients_with() { # CHECK; reads client and check
     grep ": $1" | sed 's/:.*//' | sort -u
 }
 
+serving='the gateway serves tap0'
+
 check_fault() { # FAULT FOLDER CHECK...
     local check
+    [ "$1" = 'no gateway' ] ||
+        same "$1: the gateway serves each client all the same" \
+            "$(checks ok "$2" | clients_with "$serving")" "$(clients_with "$serving" <"$work/all")"
     for check in "${@:3}"; do
         same "$1: under it fails '$check'" \
             "$(checks FAIL "$2" | clients_with "$check")" \
