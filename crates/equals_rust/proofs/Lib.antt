@@ -1,5 +1,6 @@
 pub mod TheNetwork
 pub mod Amended
+pub mod Worked
 pub mod Operations
 pub mod Sum
 pub mod Builders
