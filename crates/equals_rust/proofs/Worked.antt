@@ -3,14 +3,15 @@
 use Prim.Native.Nat.{ℕ}
 use mathlib.Core.List.{List, [], _∷_, _++_}
 use mathlib.Core.Path.{_≡_, refl}
-use lib.ListN.{replicate}
+use lib.ListN.{length, replicate}
+use Rattle.base.specs.Buffer.{put, putIfFits}
 use Rattle.base.specs.Bytes.{part}
 use Rattle.published.specs.Rust.{gives, panics, cuts, unfinished}
 use Rattle.published.specs.Runs.{Row, starts, sends, sums, types, frames, datagrams, segments, replies, arp, icmp, dhcpReplies}
 use Rattle.equals_rust.specs.Amended.{carriesUdp, amended}
 
 -- what `send` pushed in a row, from a backend that had nothing pending
-pushedBy : Row → List (List ℕ)
+abbrev pub pushedBy : Row → List (List ℕ)
 pushedBy (sends before frame (gives b)) = b .«rx_pending»
 pushedBy (sends before frame panics) = []
 pushedBy (sends before frame cuts) = []
@@ -23,23 +24,25 @@ pushedBy (datagrams source target bytes ends) = []
 pushedBy (segments counter between seq ack flags bytes ends) = []
 pushedBy (replies xid mac type ends) = []
 
-pushedIn : List Row → List (List ℕ)
+abbrev pub pushedIn : List Row → List (List ℕ)
 pushedIn [] = []
 pushedIn (row ∷ rows) = pushedBy row ++ pushedIn rows
 
 -- of each of these frames
-each : (List ℕ → List ℕ) → List (List ℕ) → List (List ℕ)
+abbrev pub each : (List ℕ → List ℕ) → List (List ℕ) → List (List ℕ)
 each f [] = []
 each f (frame ∷ rest) = f frame ∷ each f rest
 
 pub d0-of-the-rust : each (λ (frame : List ℕ). part frame 34 8) (pushedIn dhcpReplies) ≡ replicate 8 (0x00 ∷ 0x44 ∷ 0x00 ∷ 0x43 ∷ 0x01 ∷ 0x34 ∷ 0x00 ∷ 0x00 ∷ [])
-unfolding pushedBy pushedIn each
 d0-of-the-rust = refl
 
 pub d0-amended : each (λ (frame : List ℕ). part (amended frame) 34 8) (pushedIn dhcpReplies) ≡ replicate 8 (0x00 ∷ 0x43 ∷ 0x00 ∷ 0x44 ∷ 0x01 ∷ 0x34 ∷ 0x00 ∷ 0x00 ∷ [])
-unfolding pushedBy pushedIn each amended carriesUdp
+unfolding amended carriesUdp putIfFits put
 d0-amended = refl
 
 pub others-stay : each amended (pushedIn arp ++ pushedIn icmp) ≡ pushedIn arp ++ pushedIn icmp
-unfolding pushedBy pushedIn each amended carriesUdp
+unfolding amended carriesUdp
 others-stay = refl
+
+pub how-many-others : (length (pushedIn arp) ≡ 5) × (length (pushedIn icmp) ≡ 11)
+how-many-others = (refl, refl)
