@@ -77,7 +77,9 @@ unsafe extern "C" {
     ) -> u32;
 
     fn yavoledu_make_udp_payload(
+        src_ip: *const [u8; 4],
         src_port: u16,
+        dst_ip: *const [u8; 4],
         dst_port: u16,
         data: *const u8,
         data_len: usize,
@@ -191,7 +193,9 @@ pub(crate) fn make_ip_frame(
 }
 
 pub(crate) fn make_udp_payload(
+    src_ip: &[u8; 4],
     src_port: u16,
+    dst_ip: &[u8; 4],
     dst_port: u16,
     data: &[u8],
     out: &mut [u8],
@@ -200,7 +204,9 @@ pub(crate) fn make_udp_payload(
     // SAFETY: each pointer comes from a reference to as much as the header asks.
     let number = unsafe {
         yavoledu_make_udp_payload(
+            src_ip,
             src_port,
+            dst_ip,
             dst_port,
             data.as_ptr(),
             data.len(),
@@ -386,7 +392,9 @@ mod tests {
         // SAFETY: as in `make_udp_payload`.
         let number = unsafe {
             yavoledu_make_udp_payload(
+                &[10, 0, 2, 2],
                 1,
+                &[10, 0, 2, 15],
                 2,
                 [3, 4].as_ptr(),
                 2,
