@@ -74,6 +74,10 @@ impl Guest {
         let verdict = self.proved.send(frame, reply);
         match verdict {
             Verdict::Relay { .. } if self.fault == "no echo" => Verdict::Drop,
+            Verdict::Relay { start, len } if self.fault == "echo's length" => Verdict::Relay {
+                start,
+                len: len.saturating_sub(1),
+            },
             Verdict::Reply(n) if self.is_unsent(frame, &reply[..n]) => Verdict::Drop,
             Verdict::Reply(n) => {
                 self.spoil(frame, &mut reply[..n]);
