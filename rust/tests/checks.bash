@@ -48,6 +48,11 @@ within() { # SECONDS COMMAND...: whether it succeeds, tried for this time or, wh
     return 1
 }
 
+# A number that Linux counts of UDP, out of /proc/net/snmp.
+udp_counter() { # NAME
+    awk -v name="$1" '/^Udp:/ && !at { for (at = NF; $at != name; at--); next } /^Udp:/ { print $at }'
+}
+
 # --- out of a capture
 
 count() { # FILTER

@@ -227,8 +227,7 @@ hears_no_broadcast() { # NAME
 }
 
 unheard_broadcasts() {
-    awk '/^Udp:/ && !at { for (at = NF; $at != "IgnoredMulti"; at--); next }
-        /^Udp:/ { print $at }' /proc/net/snmp
+    udp_counter IgnoredMulti </proc/net/snmp
 }
 
 ends_of_renewal() { # NAME: where its requests have to come from and go to

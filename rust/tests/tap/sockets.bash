@@ -27,8 +27,7 @@ come_back() { # SIZE...: what has to be said
 
 # Of the namespace, since it was made.
 wrong_sums() {
-    awk '/^Udp:/ && !at { for (at = NF; $at != "InCsumErrors"; at--); next }
-        /^Udp:/ { print $at }' /proc/net/snmp
+    udp_counter InCsumErrors </proc/net/snmp
 }
 
 # From this port to the gateway's port 7 the datagram 'zero' has a checksum that comes to 0: the words of both
