@@ -407,6 +407,39 @@ mod tests {
         assert_eq!(values, guarded([10, 0]));
     }
 
+    #[test]
+    fn of_each_address_four_bytes_are_taken_at_any_place() {
+        for around in [0x00, 0xff] {
+            for before in 0..4 {
+                let place = |address: [u8; 4]| {
+                    let mut memory = [around; 12];
+                    memory[before..before + 4].copy_from_slice(&address);
+                    memory
+                };
+                let (from, to) = (place([10, 0, 2, 2]), place([10, 0, 2, 15]));
+                let mut out = guarded([0x77; 12]);
+                let mut values = [0; 2];
+                // SAFETY: as in `make_udp_payload`; four bytes lie behind each address's first.
+                let number = unsafe {
+                    yavoledu_make_udp_payload(
+                        from.as_ptr().add(before).cast(),
+                        7,
+                        to.as_ptr().add(before).cast(),
+                        64_232,
+                        b"zero".as_ptr(),
+                        4,
+                        out.value.as_mut_ptr(),
+                        out.value.len(),
+                        &mut values,
+                    )
+                };
+                assert_eq!((number, values), (1, [12, 0]));
+                // 17, 12 and 12, 7, 64,232, and the words of the addresses and the data come to 0x1fffd.
+                assert_eq!(out, guarded(*b"\x00\x07\xfa\xe8\x00\x0c\x00\x01zero"));
+            }
+        }
+    }
+
     const SIZED: (usize, usize) = (65_515, 128);
 
     /// A state whose six words are told apart, the phase in its range.
