@@ -43,6 +43,7 @@ ping's source: nothing else comes from the gateway
 ping's data: N replies have their pings' bytes
 no acknowledgement of a renewal: takes the lease anew
 a renewal's target: its socket hears no acknowledgement
+a renewal's UDP sum: takes the lease anew
 a renewal's lease: takes the lease anew
 a renewal's address: takes the lease anew
 a renewal's mask: takes the lease anew; tap0 has the address 10.0.2.15/24 still

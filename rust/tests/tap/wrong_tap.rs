@@ -161,7 +161,11 @@ impl Guest {
         // What was spoiled has a right checksum again, or the client would not look at it.
         let address = |at| <[u8; 4]>::try_from(&reply[at..at + 4]).expect("four bytes");
         let (from, to) = (address(IP + 12), address(IP + 16));
-        set_udp_sum(&self.fault, from, to, &mut reply[UDP..]);
+        let fault = match self.fault.as_str() {
+            "a renewal's UDP sum" if is_renewal(frame) => "UDP sum",
+            fault => fault,
+        };
+        set_udp_sum(fault, from, to, &mut reply[UDP..]);
     }
 }
 
