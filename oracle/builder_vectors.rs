@@ -2,7 +2,7 @@
 
 use crate::cases::{Call, End, List, Payload, Room, SYN, aimed, word_that_turns};
 use crate::draws::{ADDRESSES_SEED, BROADCAST_IP, BUILDERS_SEED, GATEWAY_IP, GUEST_IP, GUEST_MAC};
-use crate::lines::ALL_ONES;
+use crate::lines::{ALL_ONES, bytes_of, ruled_bytes};
 use Room::{Empty, Full, Larger, Most, OneMore, OneShort, Shorter};
 
 /// Small ones both odd and even, around a byte's reach, around what one Ethernet frame carries, and
@@ -259,6 +259,35 @@ fn udp_payloads(list: &mut List) {
     uniform_payloads(list, &ends.map(|(src, dst)| Call::Udp { src, dst }));
 }
 
+/// Datagrams whose checksum others made: a kernel and scapy. `replay` replays them; here they are held
+/// against the judge of ours.
+const OF_OTHERS: [&str; 2] = [
+    include_str!("udp_captured.txt"),
+    include_str!("udp_scapy.txt"),
+];
+
+fn check_datagrams_of_others(list: &mut List) {
+    let lines = OF_OTHERS.iter().flat_map(|file| file.lines());
+    let cases: Vec<_> = lines
+        .filter(|line| line.starts_with("05 "))
+        .map(bytes_of)
+        .collect();
+    assert!(!cases.is_empty());
+    for case in cases {
+        let number = |at: usize| u16::from_be_bytes([case[at], case[at + 1]]);
+        let address = |at: usize| [case[at], case[at + 1], case[at + 2], case[at + 3]];
+        let (src, dst) = ((address(1), number(5)), (address(7), number(11)));
+        let (seed, head, data) = (case[22], &case[28..36], &case[36..]);
+        let len = u32::from_be_bytes(address(23)) as usize;
+        let data = match seed {
+            0 => data.to_vec(),
+            seed => ruled_bytes(seed, len),
+        };
+        assert_eq!(data.len(), len);
+        assert!(list.build(&Call::Udp { src, dst }, &data)[..8] == *head);
+    }
+}
+
 /// Source port 7, and for this data the target port with which the checksum is computed as 0.
 const COMPUTED_AS_0: (Call, &[u8]) = (
     Call::Udp {
@@ -269,6 +298,7 @@ const COMPUTED_AS_0: (Call, &[u8]) = (
 );
 
 fn udp_checksums(list: &mut List) {
+    check_datagrams_of_others(list);
     list.comment("05: a checksum that is computed as 0 and sent as 0xffff");
     let (call, data) = COMPUTED_AS_0;
     let payload = Payload::WrittenOut(data.to_vec());
