@@ -7,7 +7,7 @@ use native.Mathlib.Omega.{arith}
 use borrow.Author.Tests.{le-leb, lt-leb}
 use lib.ListN.{length, getD, take, drop, length-append, length-take, length-drop, drop-of-length-le, take-append-drop, List·getD-append}
 use native.Mathlib.Nat.{add-assoc, zero-add, le-of-eq}
-use lib.Seq.{drop-cons, take-all, take-length, drop-drop, take-at, drop-at, length-take-le, take-append-seam, getD-append-add, getD-take, getD-drop}
+use lib.Seq.{drop-cons, take-all, take-length, drop-drop, take-at, drop-at, length-take-le, take-append-seam, take-append-le, take-take, getD-append-add, getD-take, getD-drop}
 use Rattle.base.specs.Bytes.{part, bytesAt}
 use Rattle.base.specs.Buffer.{put, putIfFits}
 
@@ -113,6 +113,26 @@ pub put-behind : (at : ℕ) (s t u b : List ℕ) → at + (length s + length t +
 put-behind at s t u b h =
     let both : length (s ++ t) ≡ length s + length t = length-append s t in
     ap (λ (n : ℕ). put n u (put at (s ++ t) b)) (omega arith) ∙ put-put at (s ++ t) u b (omega arith)
+
+-- two pieces, the second put first, and the first right in front of it
+pub put-in-front : (at : ℕ) (s t b : List ℕ) → at + (length s + length t) ≤ length b → put at s (put (at + length s) t b) ≡ put at (s ++ t) b
+unfolding put
+put-in-front at s t b h = ap₂ (λ (x y : List ℕ). x ++ s ++ y) front behind ∙ regroup
+  where
+    long : length (take (at + length s) b) ≡ at + length s
+    long = length-take-le (at + length s) b (omega arith)
+
+    front : take at (take (at + length s) b ++ t ++ drop (at + length s + length t) b) ≡ take at b
+    front =
+        ap (take at) (append-assoc (take (at + length s) b) t _)
+        ∙ take-append-le at (take (at + length s) b) (t ++ drop (at + length s + length t) b) (omega (arith, long))
+        ∙ take-take at (at + length s) b (omega arith)
+
+    behind : drop (at + length s) (take (at + length s) b ++ t ++ drop (at + length s + length t) b) ≡ t ++ drop (at + length s + length t) b
+    behind = ap (drop (at + length s)) (append-assoc (take (at + length s) b) t _) ∙ drop-at (take (at + length s) b) (t ++ drop (at + length s + length t) b) (at + length s) long
+
+    regroup : take at b ++ s ++ (t ++ drop (at + length s + length t) b) ≡ put at (s ++ t) b
+    regroup = simp (append-assoc, length-append, add-assoc)
 
 -- what is put at the front
 pub put-front : (s b : List ℕ) → put 0 s b ≡ s ++ drop (length s) b

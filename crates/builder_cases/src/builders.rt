@@ -31,7 +31,7 @@ pub fn builds_ip_frame(line: &[u8]) -> bool {
 }
 
 pub fn builds_udp_payload(line: &[u8]) -> bool {
-    builds(line, UDP_PAYLOAD, 5)
+    builds(line, UDP_PAYLOAD, 13)
 }
 
 pub fn builds_tcp_frame(line: &[u8]) -> bool {
@@ -97,8 +97,16 @@ fn lay_at_34(payload: &[u8], out: &mut [u8]) {
 }
 
 fn udp_payload(line: &[u8], payload: &[u8], out: &mut [u8]) -> Answer {
+    let verdict = datagrams::make_udp_payload(
+        address_at(line, 1),
+        u16be(line, 5),
+        address_at(line, 7),
+        u16be(line, 11),
+        payload,
+        out,
+    );
     Answer {
-        verdict: frames::make_udp_payload(u16be(line, 1), u16be(line, 3), payload, out),
+        verdict,
         guest: guest(line),
     }
 }

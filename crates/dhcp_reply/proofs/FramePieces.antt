@@ -1,27 +1,38 @@
--- The frame in the pieces in which it is written: the headers, UDP's, and the reply behind them.
+-- The frame in the pieces in which it is written, each in front of the one before: the reply, UDP's header, and the headers.
 use Prim.Native.Nat.{ℕ, _+_, _-_, _≤_}
 use mathlib.Core.Path.{_≡_, refl, ap, ap₂, sym, _∙_}
-use mathlib.Core.List.{List, _++_, append-assoc}
+use mathlib.Core.List.{List, _++_}
 use native.Mathlib.Omega.{arith}
 use lib.ListN.{length, take, drop, length-take, length-drop}
-use Rattle.base.proofs.Front.{nothing-yet, behind-as, behind-in-part}
-use Rattle.base.proofs.Lists.{fits, length-put}
+use lib.Seq.{take-length}
+use Rattle.base.proofs.Lists.{fits, copied, length-put, part-put, put-front, put-in-front}
 use Rattle.base.specs.Buffer.{put, putIfFits}
+use Rattle.datagrams.proofs.Datagram.{length-datagram}
 use Rattle.dhcp_message.proofs.ReadBack.{reply-reads-back}
 use Rattle.dhcp_message.specs.Message.{reply}
 use Rattle.dhcp_reply.specs.Reply.{replySource, replyTarget, dhcpFrameTo}
-use Rattle.frames.proofs.Lengths.{length-headers, length-ipFrame, length-datagram}
+use Rattle.frames.proofs.Lengths.{length-headers, length-ipFrame}
 use Rattle.frames.specs.Frames.{headers, ipFrame}
 use Rattle.record.specs.Network.{broadcastOf, FourBytes}
 use Rattle.record.specs.declared.network.Network.{Network}
-use Rattle.wire.specs.Rfc768.{datagram, datagramHeader}
+use Rattle.wire.specs.Rfc768.{headerWith, checksumOf, datagram}
 
 module _ (net : Network) (mac : List ℕ) (id : ℕ) (to : List ℕ) (xid kind : ℕ) (four : FourBytes net) (six : length mac ≡ 6) (six′ : length to ≡ 6) where
-  long : length (reply net mac xid kind) ≡ 300
+  abbrev message : List ℕ
+  message = reply net mac xid kind
+
+  long : length message ≡ 300
   long = reply-reads-back net mac xid kind four six .long
 
-  length-its-datagram : length (datagram replySource replyTarget (reply net mac xid kind)) ≡ 308
-  length-its-datagram = omega (arith, long, length-datagram replySource replyTarget (reply net mac xid kind))
+  -- its header, with the sum of this data
+  its-header : (target body : List ℕ) → List ℕ
+  its-header target body = headerWith (checksumOf (net .gateway) target replySource replyTarget 308 body) replySource replyTarget 308
+
+  abbrev its-datagram : List ℕ
+  its-datagram = datagram (net .gateway) (broadcastOf net) replySource replyTarget message
+
+  length-its-datagram : length its-datagram ≡ 308
+  length-its-datagram = omega (arith, long, length-datagram (net .gateway) (broadcastOf net) replySource replyTarget message)
 
   its-headers : List ℕ
   its-headers = headers to 328 id 17 (net .gateway) (broadcastOf net)
@@ -33,25 +44,43 @@ module _ (net : Network) (mac : List ℕ) (id : ℕ) (to : List ℕ) (xid kind :
   pub length-dhcpFrameTo : length (dhcpFrameTo net mac id to xid kind) ≡ 342
   unfolding dhcpFrameTo
   length-dhcpFrameTo =
-      length-ipFrame (net .gateway) (broadcastOf net) (four .gateway) refl to (datagram replySource replyTarget (reply net mac xid kind)) id 17 six′
+      length-ipFrame (net .gateway) (broadcastOf net) (four .gateway) refl to its-datagram id 17 six′
       ∙ ap (λ (n : ℕ). 34 + n) length-its-datagram
 
-  in-pieces : its-headers ++ datagramHeader replySource replyTarget 308 ++ reply net mac xid kind ≡ dhcpFrameTo net mac id to xid kind
-  unfolding dhcpFrameTo ipFrame datagram its-headers
-  in-pieces =
-      append-assoc its-headers (datagramHeader replySource replyTarget 308) (reply net mac xid kind)
-      ∙ ap₂ (λ (n m : ℕ). headers to (20 + n) id 17 (net .gateway) (broadcastOf net) ++ (datagramHeader replySource replyTarget (8 + m) ++ reply net mac xid kind)) (sym length-its-datagram) (sym long)
+  in-pieces : its-header (broadcastOf net) message ++ message ≡ its-datagram
+  unfolding datagram its-header
+  in-pieces = ap (λ (n : ℕ). headerWith (checksumOf (net .gateway) (broadcastOf net) replySource replyTarget (8 + n) message) replySource replyTarget (8 + n) ++ message) (sym long)
 
-  pub frame-put : (b target now header now′ rest after : List ℕ) → 342 ≤ length b
-      → target ≡ broadcastOf net → now ≡ putIfFits 0 (headers to 328 id 17 (net .gateway) target) b
-      → header ≡ datagramHeader replySource replyTarget 308 → now′ ≡ putIfFits 34 header now
-      → rest ≡ putIfFits 0 (reply net mac xid kind) (take (length now′ - 42) (drop 42 now′)) → after ≡ take 42 now′ ++ (rest ++ drop (length now′ - 42) (drop 42 now′))
+  behind-headers : its-headers ++ its-datagram ≡ dhcpFrameTo net mac id to xid kind
+  unfolding dhcpFrameTo ipFrame its-headers
+  behind-headers = ap (λ (n : ℕ). headers to (20 + n) id 17 (net .gateway) (broadcastOf net) ++ its-datagram) (sym length-its-datagram)
+
+  pub frame-put : (b target rest now header now′ after : List ℕ) → 342 ≤ length b → target ≡ broadcastOf net
+      → rest ≡ putIfFits 0 message (take (length b - 42) (drop 42 b)) → now ≡ take 42 b ++ (rest ++ drop (length b - 42) (drop 42 b))
+      → header ≡ headerWith (checksumOf (net .gateway) target replySource replyTarget 308 (take 300 (drop 42 now))) replySource replyTarget 308 → now′ ≡ putIfFits 34 header now
+      → after ≡ putIfFits 0 (headers to 328 id 17 (net .gateway) target) now′
       → after ≡ putIfFits 0 (dhcpFrameTo net mac id to xid kind) b
-  unfolding its-headers
-  frame-put b target now header now′ rest after room e p f q r s =
-      let one = behind-as (nothing-yet b) its-headers 34 length-its-headers (omega arith) _ (ap (headers to 328 id 17 (net .gateway)) e) p in
-      let two = behind-as one (datagramHeader replySource replyTarget 308) 8 refl (omega arith) header f q in
-      let same : length now′ ≡ length b = ap length (two .bytes) ∙ length-put 0 (its-headers ++ datagramHeader replySource replyTarget 308) b (omega (arith, two .long)) in
-      let there = fits 0 (reply net mac xid kind) (take (length now′ - 42) (drop 42 now′)) (simp (length-take, length-drop) (omega (arith, long, same))) in
-      let three = behind-in-part two (reply net mac xid kind) 300 long (omega arith) rest (r ∙ there) s in
-      three .bytes ∙ ap (λ (l : List ℕ). put 0 l b) in-pieces ∙ sym (fits 0 (dhcpFrameTo net mac id to xid kind) b (omega (arith, length-dhcpFrameTo)))
+  unfolding its-header its-headers
+  frame-put b target rest now header now′ after room e r p f q s =
+      let there : rest ≡ put 0 message (take (length b - 42) (drop 42 b)) = r ∙ fits 0 message (take (length b - 42) (drop 42 b)) (simp (length-take, length-drop) (omega (arith, long))) in
+      let one : now ≡ put 42 message b =
+      p ∙ copied 42 message b rest (omega arith) (there ∙ put-front message _ ∙ ap (λ (l : List ℕ). l ++ drop (length message) (take (length b - 42) (drop 42 b))) (sym (take-length message))) in
+      let read : take 300 (drop 42 now) ≡ message = ap₂ (λ (n : ℕ) (l : List ℕ). take n (drop 42 l)) (sym long) one ∙ part-put 42 message b (omega (arith, long)) in
+      let head : header ≡ its-header (broadcastOf net) message = f ∙ ap₂ its-header e read in
+      let same : length now ≡ length b = ap length one ∙ length-put 42 message b (omega (arith, long)) in
+      let two : now′ ≡ put 34 its-datagram b =
+      q
+      ∙ ap (λ (l : List ℕ). putIfFits 34 l now) head
+      ∙ fits 34 (its-header (broadcastOf net) message) now (omega (arith, same))
+      ∙ ap (put 34 (its-header (broadcastOf net) message)) one
+      ∙ put-in-front 34 (its-header (broadcastOf net) message) message b (omega (arith, long))
+      ∙ ap (λ (l : List ℕ). put 34 l b) in-pieces in
+      let same′ : length now′ ≡ length b = ap length two ∙ length-put 34 its-datagram b (omega (arith, length-its-datagram)) in
+      s
+      ∙ ap (λ (l : List ℕ). putIfFits 0 (headers to 328 id 17 (net .gateway) l) now′) e
+      ∙ fits 0 its-headers now′ (omega (arith, same′, length-its-headers))
+      ∙ ap (put 0 its-headers) two
+      ∙ ap (λ (n : ℕ). put 0 its-headers (put n its-datagram b)) (omega (arith, length-its-headers))
+      ∙ put-in-front 0 its-headers its-datagram b (omega (arith, length-its-headers, length-its-datagram))
+      ∙ ap (λ (l : List ℕ). put 0 l b) behind-headers
+      ∙ sym (fits 0 (dhcpFrameTo net mac id to xid kind) b (omega (arith, length-dhcpFrameTo)))

@@ -19,7 +19,7 @@ replyTarget = 68
 -- the frame around it, to this MAC: "record's MAC at 28", to the network's broadcast address
 unfoldable pub dhcpFrameTo : Network → (mac : List ℕ) (id : ℕ) (to : List ℕ) (xid type : ℕ) → List ℕ
 dhcpFrameTo net mac id to xid type =
-    ipFrame to id 17 (net .gateway) (broadcastOf net) (datagram replySource replyTarget (reply net mac xid type))
+    ipFrame to id 17 (net .gateway) (broadcastOf net) (datagram (net .gateway) (broadcastOf net) replySource replyTarget (reply net mac xid type))
 
 -- "and the sender's MAC"
 abbrev pub dhcpFrame : Guest → (frame : List ℕ) (xid type : ℕ) → List ℕ

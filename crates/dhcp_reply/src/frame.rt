@@ -3,10 +3,10 @@ ghost use mathlib.Core.Path.{_≡_};
 ghost use Rattle.base.specs.Buffer.{putIfFits};
 ghost use Rattle.dhcp_reply.specs.Reply.{dhcpFrameTo};
 use base::put;
+use datagrams::udp_header;
 use dhcp_message::REPLY_LENGTH;
 use dhcp_message::put_reply;
 use frames::put_headers;
-use frames::udp_header;
 use record::Network;
 use wire::ethernet;
 use wire::ipv4;
@@ -40,17 +40,19 @@ pub fn put_dhcp_reply(
         return;
     }
     let gateway = net.gateway;
+    let broadcast = net.broadcast();
     let datagram = (udp::HEADER + REPLY_LENGTH) as u16;
-    put_headers(
-        dst_mac,
-        id,
-        gateway,
-        net.broadcast(),
-        ipv4::UDP,
-        (ipv4::HEADER as u16) + datagram,
-        out,
-    );
-    let header = udp_header(REPLY_SOURCE, REPLY_TARGET, datagram);
-    put(out, DATAGRAM_AT, &header);
     put_reply(net, mac, xid, kind, &mut out[MESSAGE_AT..]);
+    let message = &out[MESSAGE_AT..FRAME];
+    let header = udp_header(
+        gateway,
+        REPLY_SOURCE,
+        broadcast,
+        REPLY_TARGET,
+        datagram,
+        message,
+    );
+    put(out, DATAGRAM_AT, &header);
+    let total = (ipv4::HEADER as u16) + datagram;
+    put_headers(dst_mac, id, gateway, broadcast, ipv4::UDP, total, out);
 }

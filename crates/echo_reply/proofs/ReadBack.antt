@@ -6,7 +6,7 @@ use native.Mathlib.Omega.{arith}
 use lib.ListN.{length, drop, length-drop}
 use lib.Seq.{getD-drop}
 use Rattle.frames.proofs.ReadBack.{FrameOf, frame-of}
-use Rattle.frames.proofs.SumsRight.{sums-right}
+use Rattle.sums.proofs.Laws.{sums-right}
 use Rattle.frames.specs.Frames.{ipFrame}
 use Rattle.record.specs.declared.network.Network.{Network}
 use Rattle.sums.specs.Rfc1071.{words, sum, total, checksum, SumsRight}

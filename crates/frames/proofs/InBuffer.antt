@@ -1,4 +1,4 @@
--- The frame or datagram that the three calls leave in the buffer where they answer 1.
+-- The frame that the two calls leave in the buffer where they answer 1.
 use Prim.Native.Nat.{ℕ, _+_, _≤_}
 use mathlib.Core.Path.{_≡_, ap, sym, _∙_}
 use mathlib.Core.List.{List, [], _∷_}
@@ -6,15 +6,13 @@ use native.Mathlib.Omega.{arith}
 use lib.ListN.{length, take, drop, length-take, length-drop}
 use Rattle.base.specs.Bytes.{part}
 use Rattle.sums.specs.Rfc1071.{SumsRight}
-use Rattle.record.specs.Answer.{paper, Wrote, Meets, building, spending}
-use Rattle.frames.specs.Builders.{makeIpFrame, makeIpFrameInPlace, makeUdpPayload}
-use Rattle.wire.specs.Rfc768.{datagram}
+use Rattle.record.specs.Answer.{paper, Meets, spending}
+use Rattle.frames.specs.Builders.{makeIpFrame, makeIpFrameInPlace}
 use Rattle.frames.specs.Frames.{ipFrame}
 use Rattle.record.specs.declared.guest.Guest.{Guest}
 use Rattle.record.specs.declared.answer.Answer.{Answer}
-use Rattle.record.specs.declared.answer.Verdict.{Verdict}
 use Rattle.record.proofs.InBuffer.{InBuffer, in-buffer}
-use Rattle.frames.proofs.Lengths.{length-ipFrame, length-datagram}
+use Rattle.frames.proofs.Lengths.{length-ipFrame}
 use Rattle.frames.proofs.SumsRight.{frame-header-sums-right}
 
 module _ (guest : Guest) (before after : List ℕ) (a : Answer) (n : ℕ) (one : paper (a .verdict) ≡ 1 ∷ n ∷ []) where
@@ -41,8 +39,3 @@ module _ (guest : Guest) (before after : List ℕ) (a : Answer) (n : ℕ) (one :
         let within : length (part before 34 len) ≡ len = simp (length-take, length-drop) (omega arith) in
         length-ipFrame source target four four′ mac (part before 34 len) (guest .id) protocol six ∙ ap (λ (k : ℕ). 34 + k) within)
         (m .wrote) one
-
-pub datagram-in-buffer : (before after : List ℕ) (v : Verdict) (n source target : ℕ) (d : List ℕ) → paper v ≡ 1 ∷ n ∷ []
-    → Wrote (makeUdpPayload source target d (length before)) before after v → InBuffer (datagram source target d) before after n
-datagram-in-buffer before after v n source target d one w =
-    in-buffer 65527 (length d) (8 + length d) (length before) (datagram source target d) before after v n (λ h. length-datagram source target d) w one

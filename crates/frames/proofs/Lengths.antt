@@ -6,7 +6,6 @@ use native.Mathlib.Omega.{arith}
 use lib.ListN.{length, drop, length-append}
 use lib.Seq.{drop-at, drop-drop}
 use Rattle.wire.specs.Rfc894.{ethernet}
-use Rattle.wire.specs.Rfc768.{datagram}
 use Rattle.wire.specs.Rfc791.{header, headerWith}
 use Rattle.frames.specs.Frames.{headers, ipFrame}
 use Rattle.record.specs.Network.{gatewayMac}
@@ -45,8 +44,3 @@ module _ (mac source target payload : List ℕ) (id protocol : ℕ) (six : lengt
       sym (drop-drop 20 14 (ipFrame mac id protocol source target payload))
       ∙ ap (drop 20) drop-14
       ∙ drop-at (header (20 + length payload) id protocol source target) payload 20 (length-header source target four four′ _ id protocol)
-
--- a datagram is 8 bytes longer than its data
-pub length-datagram : (source target : ℕ) (d : List ℕ) → length (datagram source target d) ≡ 8 + length d
-unfolding datagram
-length-datagram source target d = omega arith

@@ -6,9 +6,7 @@ use native.Mathlib.Omega.{arith}
 use lib.ListN.{length, drop}
 use Rattle.wire.specs.Rfc894.{targetMac, sourceMac, typeOf, body}
 use Rattle.record.specs.Network.{gatewayMac}
-use Rattle.wire.specs.Rfc768.{datagram}
 use Rattle.wire.specs.Rfc791.{version, headerLength, serviceType, totalLength, identification, flagsAndOffset, timeToLive, protocolOf, headerChecksum, sourceOf, targetOf}
-use Rattle.wire.specs.Rfc768 as Udp
 use Rattle.sums.specs.Rfc1071.{checksum}
 use Rattle.wire.specs.Rfc791.{header, headerWith}
 use Rattle.frames.specs.Frames.{ipFrame}
@@ -56,18 +54,6 @@ module _ (source target : List ℕ) (four : length source ≡ 4) (four′ : leng
       → PacketOf (body (ipFrame mac id protocol source target payload)) (length payload) id protocol source target
   frame-reads-back mac payload id protocol six =
       rw (drop-14 mac source target payload id protocol six four four′) (packet-reads-back payload id protocol)
-
--- RFC 768, with document 01's checksum 0; the length field is the datagram's length
-pub record DatagramOf (d : List ℕ) (source target : ℕ) : Type 0 where
-  pub source-port : Udp.sourcePort d ≡ source
-  pub target-port : Udp.targetPort d ≡ target
-  pub length-is : Udp.lengthField d ≡ length d
-  pub checksum-0 : Udp.checksumField d ≡ 0
-
-pub datagram-reads-back : (source target : ℕ) (d : List ℕ) → DatagramOf (datagram source target d) source target
-unfolding datagram
-datagram-reads-back source target d =
-    record { source-port = omega arith; target-port = omega arith; length-is = omega arith; checksum-0 = refl }
 
 -- RFC 894: target MAC, the gateway's MAC, type IPv4
 pub ethernet-reads-back : (mac source target payload : List ℕ) (id protocol : ℕ) → length mac ≡ 6

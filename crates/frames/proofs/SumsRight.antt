@@ -1,28 +1,17 @@
--- What is built sums right. A checksum field holding c adds c to the sum of the words, and 65,535 less the fold of a sum, added to it, folds to 65,535.
-use Prim.Native.Nat.{ℕ, zero, suc, _+_, _-_}
-use mathlib.Core.Path.{_≡_, ap, _∙_}
+-- The header of what is built sums right: its checksum field holding c adds c to the sum of the words.
+use Prim.Native.Nat.{ℕ, _+_}
+use mathlib.Core.Path.{_≡_}
 use mathlib.Core.List.{List}
 use native.Mathlib.Omega.{arith}
 use lib.ListN.{length}
 use lib.Seq.{take-at}
 use Rattle.base.specs.Bytes.{part}
-use Rattle.sums.specs.Rfc1071.{words, sum, total, fold, checksum, SumsRight}
+use Rattle.sums.specs.Rfc1071.{words, sum, total, SumsRight}
 use Rattle.wire.specs.Rfc791.{headerWith, header}
 use Rattle.frames.specs.Frames.{ipFrame}
 use Rattle.base.proofs.Lists.{all-bytes}
-use Rattle.sums.proofs.Laws.{fold-zero, fold-pos}
+use Rattle.sums.proofs.Laws.{sums-right}
 use Rattle.frames.proofs.Lengths.{length-header, drop-14}
-
-fold-checksum : (s : ℕ) → fold (s + (65535 - fold s)) ≡ 65535
-fold-checksum zero = rw fold-zero (fold-pos 65535 (omega arith))
-fold-checksum (suc s) =
-    let f = fold-pos (suc s) (omega arith) in
-    fold-pos (suc s + (65535 - fold (suc s))) (omega arith) ∙ omega arith
-
--- bytes whose sum is that of others plus their checksum sum right
-pub sums-right : (s t : List ℕ) → total s ≡ total t + checksum t → SumsRight s
-unfolding SumsRight checksum
-sums-right s t e = ap fold e ∙ fold-checksum (total t)
 
 module _ (source target : List ℕ) (four : length source ≡ 4) (four′ : length target ≡ 4) where
   total-headerWith : (c n id protocol : ℕ) → total (headerWith c n id protocol source target) ≡ total (headerWith 0 n id protocol source target) + c

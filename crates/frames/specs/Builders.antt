@@ -2,9 +2,8 @@
 use Prim.Native.Nat.{ℕ, _+_}
 use mathlib.Core.List.{List}
 use lib.ListN.{length}
-use Rattle.record.specs.Answer.{Writing, Outcome, building, spending}
+use Rattle.record.specs.Answer.{Outcome, spending}
 use Rattle.base.specs.Bytes.{part}
-use Rattle.wire.specs.Rfc768.{datagram}
 use Rattle.frames.specs.Frames.{ipFrame}
 use Rattle.record.specs.declared.guest.Guest.{Guest}
 
@@ -17,7 +16,3 @@ makeIpFrame guest mac source target protocol payload room =
 abbrev pub makeIpFrameInPlace : Guest → (mac source target : List ℕ) (protocol len : ℕ) (buffer : List ℕ) → Outcome
 makeIpFrameInPlace guest mac source target protocol len buffer =
     spending guest 65515 len (34 + len) (length buffer) (ipFrame mac (guest .id) protocol source target (part buffer 34 len))
-
--- UDP: "Data over 65,527: 6"
-abbrev pub makeUdpPayload : (source target : ℕ) (body : List ℕ) (room : ℕ) → Writing
-makeUdpPayload source target body room = building 65527 (length body) (8 + length body) room (datagram source target body)

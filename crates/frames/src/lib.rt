@@ -1,11 +1,8 @@
-// The builders of IPv4 frames and UDP datagrams, into a lent buffer. No public function relies on checks by its caller.
+// The builders of IPv4 frames, into a lent buffer. No public function relies on checks by its caller.
 mod ethernet;
 mod ipv4;
-mod udp;
 
 pub use ethernet::ethernet_header;
 pub use ipv4::make_ip_frame;
 pub use ipv4::make_ip_frame_in_place;
 pub use ipv4::put_headers;
-pub use udp::make_udp_payload;
-pub use udp::udp_header;

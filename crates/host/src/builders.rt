@@ -2,14 +2,15 @@
 ghost use lib.ListN.{length};
 ghost use mathlib.Core.Path.{_≡_};
 ghost use mathlib.Core.List.{_∷_};
-ghost use Rattle.frames.specs.Builders.{makeIpFrame, makeUdpPayload};
+ghost use Rattle.datagrams.specs.Builders.{makeUdpPayload};
+ghost use Rattle.frames.specs.Builders.{makeIpFrame};
 ghost use Rattle.record.specs.Answer.{paper};
 ghost use Rattle.host.specs.Exported.{Built, Told};
 ghost use Rattle.verdict_numbers.specs.Numbers.{padded};
 ghost use Rattle.sums.specs.Rfc1071.{checksum as Rfc1071·checksum};
 ghost use Rattle.tcp.specs.Builders.{makeTcpFrame};
+use datagrams::make_udp_payload;
 use frames::make_ip_frame;
-use frames::make_udp_payload;
 use record::Answer;
 use record::Guest;
 use record::Network;
@@ -39,17 +40,22 @@ pub extern "C" fn yavoledu_make_ip_frame(
 
 #[no_mangle]
 pub extern "C" fn yavoledu_make_udp_payload(
+    src_ip: &[u8; 4],
     src_port: u16,
+    dst_ip: &[u8; 4],
     dst_port: u16,
     data: &[u8],
     out: &mut [u8],
     values: &mut [usize; 2],
 ) -> u32
     ensures { λ r. ⌜ Told
-        (makeUdpPayload «src_port» «dst_port» (now («data» .entry)) (length (now (out .entry))))
+        (makeUdpPayload (now («src_ip» .entry)) (now («dst_ip» .entry)) «src_port» «dst_port» (now («data» .entry)) (length (now (out .entry))))
         (now (out .entry)) (now (out .exit)) r (now (values .exit)) ⌝ }
 {
-    numbered(make_udp_payload(src_port, dst_port, data, out), values)
+    numbered(
+        make_udp_payload(*src_ip, src_port, *dst_ip, dst_port, data, out),
+        values,
+    )
 }
 
 #[no_mangle]

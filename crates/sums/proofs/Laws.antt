@@ -7,7 +7,7 @@ use native.Mathlib.Nat.{zero-add}
 use native.Mathlib.Numerals.{add-one, add-two}
 use lib.ListN.{length, take, drop, getD, drop-of-length-le, length-take, length-drop, take-append-drop}
 use lib.Seq.{drop-cons, drop-drop}
-use Rattle.sums.specs.Rfc1071.{words, sum, total, fold, checksum}
+use Rattle.sums.specs.Rfc1071.{words, sum, total, fold, checksum, SumsRight}
 
 -- "0 if S is 0"
 pub fold-zero : fold 0 ≡ 0
@@ -28,6 +28,12 @@ fold-fold (suc a) b = rw (fold-pos (suc a) (omega arith), fold-pos ((suc a - 1) 
 pub fold-small : (s : ℕ) → s ≤ 65535 → fold s ≡ s
 fold-small zero h = fold-zero
 fold-small (suc s) h = rw (fold-pos (suc s) (omega arith)) (omega arith)
+
+-- a fold has 16 bits
+pub fold-most : (s : ℕ) → fold s ≤ 65535
+unfolding fold
+fold-most zero = omega arith
+fold-most (suc s) = omega arith
 
 -- two folds of a 32-bit total are the fold
 pub two-folds : (s : ℕ) → s < 4294967296 → (s / 65536 + s % 65536) / 65536 + (s / 65536 + s % 65536) % 65536 ≡ fold s
@@ -110,7 +116,12 @@ total-piece s at end n k e f h =
 pub fold-more : (start k : ℕ) (s t : List ℕ) → length s ≡ k * 2 → fold (fold (start + total s) + total t) ≡ fold (start + total (s ++ t))
 fold-more start k s t h = fold-fold (start + total s) (total t) ∙ ap fold (omega (arith, total-append k s t h))
 
--- four pieces summed one after the other, with no copy that joins them
+-- three pieces summed one after the other, with no copy that joins them
+pub checksum-three : (p h d : List ℕ) (i j : ℕ) → length p ≡ i * 2 → length h ≡ j * 2 → 65535 - fold (fold (fold (0 + total p) + total h) + total d) ≡ checksum (p ++ (h ++ d))
+unfolding checksum
+checksum-three p h d i j ep eh = ap (λ (n : ℕ). 65535 - n) (fold-more (fold (0 + total p)) j h d eh ∙ fold-more 0 i p (h ++ d) ep ∙ ap fold (zero-add _))
+
+-- four
 pub checksum-pieces : (p h o d : List ℕ) (i j k : ℕ) → length p ≡ i * 2 → length h ≡ j * 2 → length o ≡ k * 2
     → 65535 - fold (fold (fold (fold (0 + total p) + total h) + total o) + total d) ≡ checksum (p ++ (h ++ o ++ d))
 unfolding checksum
@@ -126,3 +137,14 @@ checksum-pieces p h o d i j k ep eh eo =
       total-append k o d eo,
     )
     (ap (λ (n : ℕ). 65535 - fold n) (omega arith))
+
+fold-checksum : (s : ℕ) → fold (s + (65535 - fold s)) ≡ 65535
+fold-checksum zero = rw fold-zero (fold-pos 65535 (omega arith))
+fold-checksum (suc s) =
+    let f = fold-pos (suc s) (omega arith) in
+    fold-pos (suc s + (65535 - fold (suc s))) (omega arith) ∙ omega arith
+
+-- bytes whose sum is that of others plus their checksum sum right
+pub sums-right : (s t : List ℕ) → total s ≡ total t + checksum t → SumsRight s
+unfolding SumsRight checksum
+sums-right s t e = ap fold e ∙ fold-checksum (total t)

@@ -4,12 +4,13 @@ use mathlib.Core.Path.{_≡_}
 use mathlib.Core.List.{List, [], _∷_}
 use lib.ListN.{length, take, drop}
 use Rattle.sums.specs.Rfc1071.{SumsRight}
+use Rattle.wire.specs.Rfc768.{covered}
 use Rattle.record.specs.Answer.{paper, Meets, spending}
 use Rattle.record.specs.declared.guest.Guest.{Guest}
 use Rattle.record.specs.declared.answer.Answer.{Answer}
 use Rattle.record.proofs.InBuffer.{InBuffer, in-buffer}
 use Rattle.tcp.specs.Builders.{makeTcpFrame, dataLimit}
-use Rattle.tcp.specs.Rfc9293.{options, covered, tcpFrame}
+use Rattle.tcp.specs.Rfc9293.{options, tcpFrame}
 use Rattle.tcp.specs.declared.Endpoints.{Endpoints}
 use Rattle.tcp.proofs.TcpLaws.{length-tcpFrame}
 use Rattle.tcp.proofs.SumsRight.{frame-segment-sums-right}
@@ -24,5 +25,5 @@ module _ (guest : Guest) (before after : List ℕ) (a : Answer) (n : ℕ) (one :
         (λ h. length-tcpFrame (guest .id) ends seq ack flags d six four four′) (m .wrote) one
 
     -- its segment, as it stands in the buffer, with the pseudo-header
-    pub segment-in-buffer-sums-right : SumsRight (covered (ends .«src_ip») (ends .«dst_ip») (drop 34 (take n after)))
+    pub segment-in-buffer-sums-right : SumsRight (covered 6 (ends .«src_ip») (ends .«dst_ip») (drop 34 (take n after)))
     segment-in-buffer-sums-right = rw (tcp-frame-in-buffer .front) (frame-segment-sums-right (guest .id) ends seq ack flags d six four four′)

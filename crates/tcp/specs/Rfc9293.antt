@@ -6,7 +6,7 @@ use lib.Dec.{eqb}
 use mathlib.Core.Bool.{Bool, cond}
 use Rattle.base.specs.Bytes.{be16, be32}
 use Rattle.sums.specs.Rfc1071.{checksum}
-use Rattle.wire.specs.Rfc768.{pseudoHeader}
+use Rattle.wire.specs.Rfc768.{covered}
 use Rattle.frames.specs.Frames.{ipFrame}
 use Rattle.tcp.specs.declared.Endpoints.{Endpoints}
 
@@ -33,16 +33,12 @@ segmentHeader csum source target seq ack flags =
     ++ be16 csum  -- checksum
     ++ be16 0  -- urgent pointer
 
--- what the checksum covers: the pseudo-header, then the segment
-unfoldable pub covered : (from to : List ℕ) (segment : List ℕ) → List ℕ
-covered from to segment = pseudoHeader from to 6 (length segment) ++ segment
-
 -- the header with its checksum. "The checksum covers the pseudo-header"; its own field counts as zero
 unfoldable pub summedHeader : (ends : Endpoints) (seq ack flags : ℕ) (body : List ℕ) → List ℕ
 summedHeader ends seq ack flags body =
     segmentHeader
     (checksum
-    (covered (ends .«src_ip») (ends .«dst_ip»)
+    (covered 6 (ends .«src_ip») (ends .«dst_ip»)
     (segmentHeader 0 (ends .«src_port») (ends .«dst_port») seq ack flags ++ options flags ++ body)))
     (ends .«src_port») (ends .«dst_port») seq ack flags
 

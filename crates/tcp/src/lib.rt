@@ -8,7 +8,8 @@ ghost use Rattle.record.specs.Answer.{Meets};
 ghost use Rattle.base.specs.Buffer.{put as Buffer·put};
 ghost use Rattle.tcp.specs.Builders.{dataLimit, makeTcpFrame};
 ghost use Rattle.sums.specs.Rfc1071.{checksum as Rfc1071·checksum};
-ghost use Rattle.tcp.specs.Rfc9293.{covered, segment, segmentHeader, summedHeader, options as Rfc9293·options};
+ghost use Rattle.tcp.specs.Rfc9293.{segment, segmentHeader, summedHeader, options as Rfc9293·options};
+ghost use Rattle.wire.specs.Rfc768.{covered};
 use base::put;
 use frames::make_ip_frame_in_place;
 use record::Answer;
@@ -122,7 +123,7 @@ fn segment_checksum(
 ) -> u16
     requires { ⌜ length (now options) % 2 ≡ 0 ⌝ }
     requires { ⌜ 20 + length (now options) + length (now «data») ≤ 65535 ⌝ }
-    ensures { λ r. ⌜ r ≡ Rfc1071·checksum (covered «src_ip» «dst_ip» (now (header .entry) ++ now (options .entry) ++ now («data» .entry))) ⌝ }
+    ensures { λ r. ⌜ r ≡ Rfc1071·checksum (covered 6 «src_ip» «dst_ip» (now (header .entry) ++ now (options .entry) ++ now («data» .entry))) ⌝ }
 {
     let len = HEADER + options.len() + data.len();
     let pseudo = pseudo_header(src_ip, dst_ip, ipv4::TCP, len as u16);

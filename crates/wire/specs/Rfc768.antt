@@ -1,8 +1,9 @@
--- UDP: RFC 768, "Fields". The fields of a datagram, at their offsets, the datagram made of them, and the pseudo-header that UDP and TCP share.
-use Prim.Native.Nat.{ℕ, _+_}
+-- UDP: RFC 768, "Fields". The fields of a datagram, at their offsets, the pseudo-header that UDP and TCP share, the checksum, and the datagram made of all this.
+use Prim.Native.Nat.{ℕ, zero, suc, _+_}
 use mathlib.Core.List.{List, [], _∷_, _++_}
 use lib.ListN.{length}
 use Rattle.base.specs.Bytes.{be16, u16At}
+use Rattle.sums.specs.Rfc1071.{checksum}
 
 abbrev pub sourcePort : List ℕ → ℕ
 sourcePort datagram = u16At datagram 0
@@ -16,13 +17,28 @@ lengthField datagram = u16At datagram 4
 abbrev pub checksumField : List ℕ → ℕ
 checksumField datagram = u16At datagram 6
 
--- "Fields": ports, the length of header and data, and the checksum 0, which says that there is none
-abbrev pub datagramHeader : (source target len : ℕ) → List ℕ
-datagramHeader source target len = be16 source ++ be16 target ++ be16 len ++ be16 0
-
-unfoldable pub datagram : (source target : ℕ) (body : List ℕ) → List ℕ
-datagram source target body = datagramHeader source target (8 + length body) ++ body
+-- "Fields": ports, the length of header and data, and `csum` in the checksum field
+abbrev pub headerWith : (csum source target len : ℕ) → List ℕ
+headerWith csum source target len = be16 source ++ be16 target ++ be16 len ++ be16 csum
 
 -- the pseudo-header (also RFC 9293, section 3.1): both addresses, zero, the protocol, the length of header and data
 unfoldable pub pseudoHeader : (source target : List ℕ) (protocol len : ℕ) → List ℕ
 pseudoHeader source target protocol len = source ++ target ++ (0 ∷ protocol ∷ []) ++ be16 len
+
+-- what a checksum of UDP or TCP covers: the pseudo-header, and the datagram or segment behind it
+unfoldable pub covered : (protocol : ℕ) (source target payload : List ℕ) → List ℕ
+covered protocol source target payload = pseudoHeader source target protocol (length payload) ++ payload
+
+-- "If the computed checksum is zero, it is transmitted as all ones (the equivalent in one's complement arithmetic). An all zero transmitted checksum value means that the transmitter generated no checksum"
+unfoldable pub transmitted : (computed : ℕ) → ℕ
+transmitted zero = 0xffff
+transmitted (suc n) = suc n
+
+-- "Checksum is the 16-bit one's complement of the one's complement sum of a pseudo header of information from the IP header, the UDP header, and the data, padded with zero octets at the end (if
+-- necessary) to make a multiple of two octets.": the checksum field of a datagram of `len` bytes, from one address and port to another, around this data. Its own field counts as zero.
+unfoldable pub checksumOf : (from to : List ℕ) (source target len : ℕ) (body : List ℕ) → ℕ
+checksumOf from to source target len body = transmitted (checksum (pseudoHeader from to 17 len ++ (headerWith 0 source target len ++ body)))
+
+-- the datagram
+unfoldable pub datagram : (from to : List ℕ) (source target : ℕ) (body : List ℕ) → List ℕ
+datagram from to source target body = headerWith (checksumOf from to source target (8 + length body) body) source target (8 + length body) ++ body

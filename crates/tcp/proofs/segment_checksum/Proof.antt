@@ -6,8 +6,7 @@ use native.Mathlib.Omega.{arith}
 use borrow.Author.Needs.{needs}
 use lib.ListN.{length, length-append}
 use Rattle.sums.specs.Rfc1071.{total, fold, checksum}
-use Rattle.wire.specs.Rfc768.{pseudoHeader}
-use Rattle.tcp.specs.Rfc9293.{covered}
+use Rattle.wire.specs.Rfc768.{pseudoHeader, covered}
 use Rattle.sums.proofs.Laws.{checksum-pieces}
 use Rattle.tcp.proofs.segment_checksum.Statement.{statement}
 use Rattle.tcp.proofs.segment_checksum.Tie as tie

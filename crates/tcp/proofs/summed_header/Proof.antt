@@ -6,7 +6,8 @@ use native.Mathlib.Omega.{arith}
 use borrow.Author.Needs.{needs}
 use lib.ListN.{length}
 use Rattle.sums.specs.Rfc1071.{checksum}
-use Rattle.tcp.specs.Rfc9293.{covered, segmentHeader, summedHeader}
+use Rattle.wire.specs.Rfc768.{covered}
+use Rattle.tcp.specs.Rfc9293.{segmentHeader, summedHeader}
 use Rattle.tcp.proofs.TcpLaws.{options-even, limit-holds}
 use Rattle.tcp.proofs.summed_header.Statement.{statement}
 use Rattle.tcp.proofs.summed_header.Tie as tie
@@ -26,7 +27,7 @@ returns c =
     c .segment-header2 .ensures
     ∙ ap (λ (n : ℕ). segmentHeader n (e .«src_port») (e .«dst_port») (a .seq) (a .ack) (a .flags))
     (c .before .segment-checksum .ensures
-    ∙ ap₂ (λ (h o : List ℕ). checksum (covered (e .«src_ip») (e .«dst_ip») (h ++ o ++ d))) (c .before .before .before .segment-header .ensures) (c .before .before .before .before .before .before .before .before .pre .0))
+    ∙ ap₂ (λ (h o : List ℕ). checksum (covered 6 (e .«src_ip») (e .«dst_ip») (h ++ o ++ d))) (c .before .before .before .segment-header .ensures) (c .before .before .before .before .before .before .before .before .pre .0))
 
 pub summed-header-spec : {M : Type 1} → statement M
 summed-header-spec =

@@ -1,4 +1,4 @@
--- `frame::put_dhcp_reply` meets its contract: the headers, UDP's, and the reply behind them make the frame.
+-- `frame::put_dhcp_reply` meets its contract: the reply, UDP's header in front of it, and the headers in front of both make the frame.
 use mathlib.Core.Path.{_≡_, refl, sym, _∙_}
 use native.Mathlib.Omega.{arith}
 use lib.ListN.{length, length-map}
@@ -31,24 +31,24 @@ returns c =
 
 returns-2 : tie.Need-returns-2
 returns-2 c =
-    let message = c .before .before in
-    let header = message .before .before .before .before in
+    let headed = c .before .before in
+    let header = headed .before .before .before .before in
     let made = header .before .before .before in
-    let headed = made .before .before .before in
-    let target = headed .before .before in
+    let message = made .before .before .before .before .before in
+    let target = message .before .before in
     let tests = target .before .before in
     let start = tests .before .before in
     let a = start .args in
     let four = net-four start in
     let six : length (a .mac) ≡ 6 = omega (arith, start .good) in
     let six′ : length (a .dst-mac) ≡ 6 = omega (arith, start .good) in
-    frame-put (a .net) (a .mac) (a .id) (a .dst-mac) (a .xid) (a .kind) four six six′ (a .out .now) _ _ _ _ _ _ (tests .if1 .left) (target .broadcast .ensures) (headed .put-headers .ensures)
-    (made .udp-header .ensures) (header .put .ensures) (message .put-reply .ensures) refl
+    frame-put (a .net) (a .mac) (a .id) (a .dst-mac) (a .xid) (a .kind) four six six′ (a .out .now) _ _ _ _ _ _ (tests .if1 .left) (target .broadcast .ensures) (message .put-reply .ensures) refl
+    (made .udp-header .ensures) (header .put .ensures) (headed .put-headers .ensures)
 
 pub put-dhcp-reply-spec : {M : Type 1} → statement M
 put-dhcp-reply-spec =
     tie.close
-    (tie.spec returns (λ c. search needs) (λ c. search needs) (λ c κs. search needs) (λ c. search needs)
-    (λ c. search needs) (λ c κs. search needs) (λ c κs. search needs) (λ c. search needs)
-    (λ c κs. search needs) (λ c. search needs) (λ c. search needs) (λ c. search needs) (λ c κs. search needs)
-    (λ c. search needs) returns-2)
+    (tie.spec returns (λ c κs. search needs) (λ c. search needs) (λ c. search needs) (λ c. search needs)
+    (λ c. search needs) (λ c. search needs) (λ c κs. search needs) (λ c. search needs) (λ c. search needs)
+    (λ c. search needs) (λ c κs. search needs) (λ c. search needs) (λ c κs. search needs) (λ c. search needs)
+    (λ c. search needs) (λ c κs. search needs) (λ c. search needs) returns-2)

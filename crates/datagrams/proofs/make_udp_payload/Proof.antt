@@ -1,4 +1,4 @@
--- `udp::make_udp_payload` meets its contract: the header and then the data, put one behind the other, are the datagram at the buffer's front.
+-- `make_udp_payload` meets its contract: the header and then the data, put one behind the other, are the datagram at the buffer's front.
 use Prim.Native.Nat.{ℕ, _+_}
 use mathlib.Core.Path.{_≡_, ap, _∙_}
 use mathlib.Core.List.{List, _++_}
@@ -6,11 +6,11 @@ use native.Mathlib.Omega.{arith}
 use borrow.Author.Needs.{needs}
 use lib.ListN.{length}
 use Rattle.base.specs.Buffer.{put}
-use Rattle.wire.specs.Rfc768.{datagram, datagramHeader}
+use Rattle.wire.specs.Rfc768.{headerWith, checksumOf, datagram}
 use Rattle.base.proofs.Lists.{fits, put-put, put-front}
 use Rattle.record.proofs.Built.{too-long, no-room, written}
-use Rattle.frames.proofs.udp.make_udp_payload.Statement.{statement}
-use Rattle.frames.proofs.udp.make_udp_payload.Tie as tie
+use Rattle.datagrams.proofs.make_udp_payload.Statement.{statement}
+use Rattle.datagrams.proofs.make_udp_payload.Tie as tie
 
 returns : tie.Need-returns
 returns c = too-long _ _ _ _ _ _ (c .if1 .taken)
@@ -22,7 +22,8 @@ returns-3 : tie.Need-returns-3
 unfolding datagram
 returns-3 c =
     let a = c .before .before .before .before .before .before .before .before .before .before .before .before .before .before .args in
-    let head = datagramHeader (a .src-port) (a .dst-port) (8 + length (a .data .now)) in
+    let len = 8 + length (a .data .now) in
+    let head = headerWith (checksumOf (a .src-ip) (a .dst-ip) (a .src-port) (a .dst-port) len (a .data .now)) (a .src-port) (a .dst-port) len in
     let made = c .before .before .before .before .before .before .before .before .before .udp-header in
     let its-head : made .result ≡ head = made .ensures in
     written _ _ _ _ _ _ _ (omega arith) (omega arith)

@@ -1,0 +1,77 @@
+-- A datagram sums right with its pseudo-header, and its checksum is never 0. The field holding c adds c to the sum of the words; all ones for 0 is 65,535 more, which folds to the same.
+use Prim.Native.Nat.{ℕ, zero, suc, _+_, _*_, _-_, _≤_, _<_}
+use mathlib.Core.Path.{_≡_, refl, ap, sym, _∙_}
+use mathlib.Core.List.{List, _++_}
+use mathlib.Core.Logic.{_⊎_, inl, inr}
+use native.Mathlib.Omega.{arith}
+use lib.ListN.{length, drop, length-append}
+use Rattle.sums.specs.Rfc1071.{words, sum, total, fold, checksum, SumsRight}
+use Rattle.sums.proofs.Laws.{total-append, fold-most, fold-few-rounds, sums-right}
+use Rattle.wire.specs.Rfc768 as Udp
+use Rattle.wire.specs.Rfc768.{headerWith, pseudoHeader, covered, transmitted, checksumOf, datagram}
+use Rattle.wire.proofs.Covered.{length-pseudoHeader, total-covered, protocol-counts}
+
+-- a datagram is 8 bytes longer than its data
+pub length-datagram : (from to : List ℕ) (source target : ℕ) (d : List ℕ) → length (datagram from to source target d) ≡ 8 + length d
+unfolding datagram
+length-datagram from to source target d = omega arith
+
+-- "An all zero transmitted checksum value means that the transmitter generated no checksum"
+transmitted-some : (computed : ℕ) → transmitted computed ≡ 0 → ⊥
+unfolding transmitted
+transmitted-some zero e = omega arith
+transmitted-some (suc n) e = omega arith
+
+-- the computed checksum, or all ones for 0
+transmitted-cases : (computed : ℕ) → (transmitted computed ≡ computed) ⊎ ((computed ≡ 0) × (transmitted computed ≡ 65535))
+unfolding transmitted
+transmitted-cases zero = inr (refl, refl)
+transmitted-cases (suc n) = inl refl
+
+-- bytes whose sum is that of others plus their checksum, as it is transmitted, sum right where there is something to sum
+transmitted-sums-right : (s t : List ℕ) → 1 ≤ total t → total s ≡ total t + transmitted (checksum t) → SumsRight s
+unfolding SumsRight checksum
+transmitted-sums-right s t some e = go (transmitted-cases (checksum t))
+  where
+    go : (transmitted (checksum t) ≡ checksum t) ⊎ ((checksum t ≡ 0) × (transmitted (checksum t) ≡ 65535)) → fold (total s) ≡ 65535
+    go (inl same) = sums-right s t (e ∙ ap (λ (n : ℕ). total t + n) same)
+    go (inr (none, ones)) = ap fold (e ∙ omega (arith, ones)) ∙ fold-few-rounds (total t) 1 some ∙ omega (arith, none, fold-most (total t))
+
+-- the header with a checksum in it, in words
+total-headerWith : (c source target len : ℕ) → total (headerWith c source target len) ≡ total (headerWith 0 source target len) + c
+unfolding total words sum
+total-headerWith c source target len = omega arith
+
+module _ (from to : List ℕ) (four : length from ≡ 4) (four′ : length to ≡ 4) (source target : ℕ) (d : List ℕ) where
+  abbrev len : ℕ
+  len = 8 + length d
+
+  abbrev blank : List ℕ
+  blank = pseudoHeader from to 17 len ++ (headerWith 0 source target len ++ d)
+
+  -- header and data, with this checksum, behind the pseudo-header
+  total-with : (c : ℕ) → total (covered 17 from to (headerWith c source target len ++ d)) ≡ total blank + c
+  total-with c =
+      let long : length (headerWith c source target len ++ d) ≡ len = omega arith in
+      omega (
+        arith,
+        total-covered from to four four′ 17 (headerWith c source target len ++ d),
+        ap (λ (n : ℕ). total (pseudoHeader from to 17 n)) long,
+        total-append 4 (headerWith c source target len) d refl,
+        total-append 4 (headerWith 0 source target len) d refl,
+        total-append 6 (pseudoHeader from to 17 len) (headerWith 0 source target len ++ d) (length-pseudoHeader from to four four′ 17 len),
+        total-headerWith c source target len,
+      )
+
+  -- RFC 768, "Fields": the datagram's words with those of its pseudo-header fold to 65,535
+  pub datagram-sums-right : SumsRight (covered 17 from to (datagram from to source target d))
+  unfolding datagram checksumOf
+  datagram-sums-right =
+      let some : 1 ≤ total blank =
+      omega (arith, protocol-counts from to four four′ 17 len, total-append 6 (pseudoHeader from to 17 len) (headerWith 0 source target len ++ d) (length-pseudoHeader from to four four′ 17 len)) in
+      transmitted-sums-right _ blank some (total-with (transmitted (checksum blank)))
+
+-- and its checksum is not 0, which would say that there is none
+pub checksum-some : (from to : List ℕ) (source target len : ℕ) (d : List ℕ) → checksumOf from to source target len d ≡ 0 → ⊥
+unfolding checksumOf
+checksum-some from to source target len d = transmitted-some _

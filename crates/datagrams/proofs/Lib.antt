@@ -1,0 +1,4 @@
+pub mod Datagram
+pub mod ReadBack
+pub mod InBuffer
+pub mod OneAnswer

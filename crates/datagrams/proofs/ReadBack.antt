@@ -1,0 +1,48 @@
+-- The fields of a datagram, read from its bytes at their offsets, are the ones that were put in; it sums right, and so does the datagram in a frame around it.
+use Prim.Native.Nat.{ℕ, _+_}
+use mathlib.Core.Path.{_≡_, refl, ap, sym, _∙_}
+use mathlib.Core.List.{List}
+use native.Mathlib.Omega.{arith}
+use lib.ListN.{length, drop}
+use Rattle.sums.specs.Rfc1071.{SumsRight}
+use Rattle.wire.specs.Rfc768 as Udp
+use Rattle.wire.specs.Rfc768.{covered, checksumOf, datagram}
+use Rattle.frames.specs.Frames.{ipFrame}
+use Rattle.frames.proofs.Lengths.{drop-34}
+use Rattle.datagrams.proofs.Datagram.{length-datagram, datagram-sums-right, checksum-some}
+
+-- RFC 768, "Fields": `s` is a datagram from one address and port to another, around this data
+pub record DatagramOf (s from to : List ℕ) (source target : ℕ) (d : List ℕ) : Type 0 where
+  pub source-port : Udp.sourcePort s ≡ source
+  pub target-port : Udp.targetPort s ≡ target
+  pub length-is : Udp.lengthField s ≡ length s
+  pub checksum-is : Udp.checksumField s ≡ checksumOf from to source target (length s) d
+  pub summed : Udp.checksumField s ≡ 0 → ⊥
+  pub sums : SumsRight (covered 17 from to s)
+  pub carried : drop 8 s ≡ d
+
+module _ (from to : List ℕ) (four : length from ≡ 4) (four′ : length to ≡ 4) (source target : ℕ) (d : List ℕ) where
+  stored : Udp.checksumField (datagram from to source target d) ≡ checksumOf from to source target (8 + length d) d
+  unfolding datagram
+  stored = omega arith
+
+  data-behind : drop 8 (datagram from to source target d) ≡ d
+  unfolding datagram
+  data-behind = refl
+
+  pub datagram-reads-back : DatagramOf (datagram from to source target d) from to source target d
+  unfolding datagram
+  datagram-reads-back =
+      record {
+        source-port = omega arith;
+        target-port = omega arith;
+        length-is = omega arith;
+        checksum-is = stored ∙ ap (λ (n : ℕ). checksumOf from to source target n d) (sym (length-datagram from to source target d));
+        summed = λ e. checksum-some from to source target (8 + length d) d (sym stored ∙ e);
+        sums = datagram-sums-right from to four four′ source target d;
+        carried = data-behind;
+      }
+
+  -- the datagram in a frame from the one address to the other
+  pub datagram-frame-reads-back : (mac : List ℕ) (id : ℕ) → length mac ≡ 6 → DatagramOf (drop 34 (ipFrame mac id 17 from to (datagram from to source target d))) from to source target d
+  datagram-frame-reads-back mac id six = rw (drop-34 mac from to (datagram from to source target d) id 17 six four four′) datagram-reads-back
