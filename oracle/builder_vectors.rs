@@ -329,6 +329,14 @@ fn udp_checksums(list: &mut List) {
         list.case(&Call::Udp { src, dst }, &payload, &[Full]);
     }
 
+    list.comment("05 and 03: a datagram, and the IPv4 frame around it between the same addresses");
+    around_a_datagram(list, &call, data);
+    for len in [0, 1, 2, 3, 8, 9, 63, 64] {
+        let call = drawn_udp(list);
+        let data = list.draws.bytes(len);
+        around_a_datagram(list, &call, &data);
+    }
+
     list.comment("05: one byte of an address or a port, all others 0");
     for place in 0..12 {
         for byte in [1, 0x80, 0xff] {
@@ -344,6 +352,21 @@ fn udp_checksums(list: &mut List) {
             );
         }
     }
+}
+
+fn around_a_datagram(list: &mut List, call: &Call, data: &[u8]) {
+    let Call::Udp { src, dst } = call else {
+        panic!("no datagram");
+    };
+    let payload = Payload::WrittenOut(data.to_vec());
+    let datagram = list.case(call, &payload, &[Full]).unwrap();
+    let around = Call::Ip {
+        dst_mac: GUEST_MAC,
+        src_ip: src.0,
+        dst_ip: dst.0,
+        proto: 17,
+    };
+    list.case(&around, &Payload::WrittenOut(datagram), &[Full]);
 }
 
 /// By the target port.
