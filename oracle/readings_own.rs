@@ -108,7 +108,7 @@ fn tcp_frames(list: &mut ReadingList) {
 }
 
 /// A datagram of the builder's, in the frame that document 01 says the other builder makes, between the
-/// same addresses.
+/// same addresses: every second, and those whose checksum is computed as 0.
 fn datagrams(list: &mut ReadingList) {
     let cases = cases();
     let cases = cases.iter().filter(|case| case[0] == 5);
@@ -127,7 +127,8 @@ fn datagrams(list: &mut ReadingList) {
         };
         let frame = ip_frame(record, &GUEST_MAC, target, 17, &datagram);
         assert!(datagram[6..8] != [0, 0]);
-        if frame.len() > LONGEST {
+        let is_listed = turn % 2 == 0 || datagram[6..8] == [0xff, 0xff];
+        if frame.len() > LONGEST || !is_listed {
             continue;
         }
         match [number(&datagram[..2]), number(&datagram[2..4])] {
