@@ -1,3 +1,4 @@
+pub mod Worked
 pub mod Datagram
 pub mod ReadBack
 pub mod InBuffer

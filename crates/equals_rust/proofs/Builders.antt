@@ -12,11 +12,11 @@ use Rattle.wire.specs.Rfc791.{headerWith, header}
 use Rattle.frames.specs.Frames.{ipFrame}
 use Rattle.wire.specs.Rfc894.{ethernet}
 use Rattle.record.specs.Network.{gatewayMac}
-use Rattle.wire.specs.Rfc768.{datagram}
 use Rattle.published.specs.Rust.{Run, gives, cuts, _>>=_, Slice, lenOf, zeros, store, copy, copyFrom, u16ToBe, wrappingAddU16}
 use Rattle.published.specs.Frames.{Counted, «HOST_MAC», «ETHERTYPE_IP», «make_ip_frame», «make_udp_payload»}
 use Rattle.sums.specs.Rfc1071.{checksum}
 use Rattle.equals_rust.specs.Types.{Bytes}
+use Rattle.equals_rust.proofs.Amended.{unsummed}
 use Rattle.equals_rust.proofs.Operations.{copy-zeros, copy-end, copy-rest, bytes-append}
 use Rattle.equals_rust.proofs.Sum.{rust-checksum}
 
@@ -81,8 +81,8 @@ module _ (src dst : ℕ) («data» : Slice) where
   unfolding «make_udp_payload»
   udp-payload-cut h = rw (le-ltb (8 + lenOf «data») 65536 (omega arith))
 
-  pub udp-payload-given : lenOf «data» ≤ 65527 → «make_udp_payload» src dst «data» ≡ gives (datagram src dst («data» .bytes))
-  unfolding «make_udp_payload» datagram
+  pub udp-payload-given : lenOf «data» ≤ 65527 → «make_udp_payload» src dst «data» ≡ gives (unsummed src dst («data» .bytes))
+  unfolding «make_udp_payload» unsummed
   udp-payload-given h =
       rw (
         lt-ltb (8 + lenOf «data») 65536 (omega arith),

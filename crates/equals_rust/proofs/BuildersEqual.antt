@@ -7,15 +7,16 @@ use mathlib.Core.List.{List, [], _∷_}
 use native.Mathlib.Omega.{arith}
 use borrow.Author.Tests.{ltb-true, ltb-false, lt-ltb, le-ltb}
 use lib.Dec.{ltb}
-use lib.ListN.{length}
+use lib.ListN.{length, getD, List·getD-append}
 use Rattle.record.specs.Answer.{Wrote, Meets, building, spending}
-use Rattle.frames.specs.Builders.{makeIpFrame, makeUdpPayload}
+use Rattle.datagrams.specs.Builders.{makeUdpPayload}
+use Rattle.frames.specs.Builders.{makeIpFrame}
 use Rattle.wire.specs.Rfc768.{datagram}
 use Rattle.frames.specs.Frames.{ipFrame}
 use Rattle.record.specs.declared.answer.Answer.{Answer}
 use Rattle.record.specs.declared.guest.Guest.{Guest}
 use Rattle.record.specs.declared.answer.Verdict.{Verdict}
-use Rattle.frames.proofs.Lengths.{length-datagram, length-ipFrame}
+use Rattle.frames.proofs.Lengths.{length-ipFrame}
 use Rattle.published.specs.Rust.{Run, gives, panics, cuts, unfinished, whole}
 use Rattle.published.specs.Frames.{Counted, «make_ip_frame», «make_udp_payload», «make_tcp_frame», checksum as rustChecksum}
 use Rattle.record.specs.Answer.{unwritten}
@@ -25,8 +26,10 @@ use Rattle.tcp.specs.Rfc9293.{options, tcpFrame}
 use Rattle.tcp.proofs.TcpLaws.{length-tcpFrame}
 use Rattle.tcp.specs.declared.Endpoints.{Endpoints}
 use Rattle.equals_rust.specs.Alike.{theEnds, cameOfBuilder, writtenAs, unwrittenAs}
+use Rattle.equals_rust.specs.Amended.{summed}
 use Rattle.equals_rust.specs.Builders.{FrameEquals, DatagramEquals}
 use Rattle.equals_rust.specs.Types.{Bytes, Array, GuestTyped, EndsTyped}
+use Rattle.equals_rust.proofs.Amended.{summed-as-long, summed-elsewhere, unsummed, length-unsummed, unsummed-summed}
 use Rattle.equals_rust.proofs.Operations.{ending, gives-one}
 use Rattle.equals_rust.proofs.Sum.{rust-checksum}
 use Rattle.equals_rust.proofs.Builders.{ip-frame-cut, ip-frame-given, udp-payload-cut, udp-payload-given}
@@ -91,20 +94,21 @@ module _ (guest : Guest) (limit len need : ℕ) (image : List ℕ) (run : Run Co
         ends = run-ended .no-more-turns;
       }
 
--- one that takes none
-module _ (limit len need : ℕ) (image : List ℕ) (run : Run (List ℕ)) (size : length image ≡ need) (over : limit < len → run ≡ cuts) (within : len ≤ limit → run ≡ gives image)
-    (before after : List ℕ) (verdict : Verdict) (m : Wrote (building limit len need (length before) image) before after verdict) where
-  run-ended′ : Ended limit len run image over within
-  run-ended′ = ended limit len run image over within
+-- one that takes none: what the Rust built becomes `image`, which is as long
+module _ (from to : List ℕ) (limit len need : ℕ) (rust image : List ℕ) (become : summed from to rust ≡ image) (run : Run (List ℕ)) (size : length rust ≡ need) (over : limit < len → run ≡ cuts)
+    (within : len ≤ limit → run ≡ gives rust) (before after : List ℕ) (verdict : Verdict) (m : Wrote (building limit len need (length before) image) before after verdict) where
+  run-ended′ : Ended limit len run rust over within
+  run-ended′ = ended limit len run rust over within
 
-  datagram-equals : DatagramEquals run limit len before after verdict
+  datagram-equals : DatagramEquals from to run limit len before after verdict
   unfolding building
   datagram-equals =
       record {
         equal = λ built e room.
             let g = run-ended′ .gives-there built e in
-            subst (λ (x : List ℕ). Wrote (writtenAs x) before after verdict) (g .1)
-            (rw (le-ltb limit len (g .0), le-ltb (length before) need (omega (arith, room, size, ap length (g .1))), ← size) at m);
+            subst (λ (x : List ℕ). Wrote (writtenAs (summed from to x)) before after verdict) (g .1)
+            (rw (summed-as-long from to rust, size, become)
+            (rw (le-ltb limit len (g .0), le-ltb (length before) need (omega (arith, room, size, ap length (g .1)))) at m));
         lacks-room = λ built e short.
             let g = run-ended′ .gives-there built e in
             subst (λ (x : List ℕ). Wrote (unwrittenAs (5 ∷ length x ∷ [])) before after verdict) (g .1)
@@ -128,12 +132,20 @@ module _ (before after : List ℕ) where
       (ip-frame-given (guest .id) protocol mac source target (whole payload) (m .long) (s .long) (t .long) (g .id) p (s .bytes) (t .bytes))
       before after answer
 
-  pub make-udp-payload-equals : (source target : ℕ) (body : List ℕ) (verdict : Verdict)
-      → Wrote (makeUdpPayload source target body (length before)) before after verdict
-      → DatagramEquals («make_udp_payload» source target (whole body)) 65527 (length body) before after verdict
-  make-udp-payload-equals source target body verdict =
-      datagram-equals 65527 (length body) (8 + length body) (datagram source target body) _ (length-datagram source target body)
-      (udp-payload-cut source target (whole body)) (udp-payload-given source target (whole body)) before after verdict
+  -- Document 02, 6/13: the checksum is RFC 768's, between whatever addresses
+  module _ (from to : List ℕ) (source target : ℕ) (body : List ℕ) (verdict : Verdict) (w : Wrote (makeUdpPayload from to source target body (length before)) before after verdict) where
+    pub make-udp-payload-equals : DatagramEquals from to («make_udp_payload» source target (whole body)) 65527 (length body) before after verdict
+    make-udp-payload-equals =
+        datagram-equals from to 65527 (length body) (8 + length body) (unsummed source target body) (datagram from to source target body) (unsummed-summed source target body from to) _
+        (length-unsummed source target body) (udp-payload-cut source target (whole body)) (udp-payload-given source target (whole body)) before after verdict w
+
+    -- so each byte of the datagram but 6 and 7 is the Rust's
+    pub make-udp-payload-has-the-rusts-bytes : (built : List ℕ) → «make_udp_payload» source target (whole body) ≡ gives built → length built ≤ length before
+        → (place : ℕ) → place < length built → (6 ≤ place → 8 ≤ place) → getD after place 0 ≡ getD built place 0
+    make-udp-payload-has-the-rusts-bytes built e room place there out =
+        ap (λ (l : List ℕ). getD l place 0) (make-udp-payload-equals .equal built e room .bytes)
+        ∙ List·getD-append (summed from to built) _ 0 place (omega (arith, summed-as-long from to built, there))
+        ∙ summed-elsewhere from to built place out
 
   pub make-tcp-frame-equals : (guest : Guest) (ends : Endpoints) (seq ack flags : ℕ) (body : List ℕ) (answer : Answer)
       → GuestTyped guest → EndsTyped ends → seq < 4294967296 → ack < 4294967296 → flags < 256 → Bytes body

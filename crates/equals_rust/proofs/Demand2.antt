@@ -1,7 +1,7 @@
 -- Demand 2 of the gateway: "On every frame where the Rust shown doesn't panic or cut a length to 16 bits, and the buffer has room for the reply, the verdict and reply bytes, and the record after a
 -- drop or reply, equal the Rust's from the same IP id, xid and guest MAC, but where a request of document 02 says otherwise." The Rust is crate `published`: a build without overflow checks.
--- `recordOf` a backend is the record with its id, xid and MAC, on the network of the Rust's text. What document 02 says otherwise is the order of ports in a DHCP reply (2/13): `amendedIn` puts it into
--- what came of the Rust's run. (1/13: "Demand 2 compares with the Rust for the record of 01's values and with the written definition for every other": the latter is `handle`'s contract.)
+-- `recordOf` a backend is the record with its id, xid and MAC, on the network of the Rust's text. What document 02 says otherwise is the order of ports in a DHCP reply (2/13) and its UDP checksum (6/13):
+-- `amendedIn` puts them into what came of the Rust's run. (1/13: "Demand 2 compares with the Rust for the record of 01's values and with the written definition for every other": the latter is `handle`'s contract.)
 use Prim.Native.Nat.{ℕ, _≤_, _<_}
 use mathlib.Core.Path.{_≡_, refl, ap, sym, subst, _∙_}
 use mathlib.Core.Logic.{_⊎_, inl, inr, _↔_}
@@ -95,36 +95,37 @@ module _ (self : SlirpBackend) (frame : List ℕ) (typed : GuestTyped (recordOf 
   pub rust-hands-over : (b : SlirpBackend) → send self (whole frame) ≡ gives b → AllHandedOver frame (added (self .calls) (b .calls))
   rust-hands-over b e = at-end 0 (gives b) e .1
 
-  -- Document 02, 2/13, is all that is amended: either nothing is, or the frame is a client's DHCP message and the Rust's reply to it goes from 68 to 67
-  pub exactly-the-ports : (b : SlirpBackend) → send self (whole frame) ≡ gives b → Excepted frame (cameOf self b)
-  exactly-the-ports b e = at-end 0 (gives b) e .2
+  -- Document 02, 2/13 and 6/13, are all that is amended: either nothing is, or the frame is a client's DHCP message and the Rust's reply to it goes from 68 to 67 and has no checksum
+  pub exactly-the-leases : (b : SlirpBackend) → send self (whole frame) ≡ gives b → Excepted frame (cameOf self b)
+  exactly-the-leases b e = at-end 0 (gives b) e .2
 
   pub amends-dhcp-alone : ((xid : ℕ) → Message frame xid → ⊥) → (b : SlirpBackend) → send self (whole frame) ≡ gives b → amendedIn (cameOf self b) ≡ cameOf self b
-  amends-dhcp-alone no-dhcp b e = go (exactly-the-ports b e)
+  amends-dhcp-alone no-dhcp b e = go (exactly-the-leases b e)
     where
       go : Excepted frame (cameOf self b) → amendedIn (cameOf self b) ≡ cameOf self b
       go (inl kept) = kept
-      go (inr turned) = absurd (no-dhcp (turned .asked .0) (turned .asked .1))
+      go (inr lease) = absurd (no-dhcp (lease .asked .0) (lease .asked .1))
 
   -- Whatever answers a call with any buffer as `handle` promises: `m` is what it ensures (crates/slirp/src/entry.rt).
   module _ (before after : List ℕ) (answer : Answer) (m : Meets (outcome (recordOf self) frame (length before)) before after answer) where
     meets : (o : Outcome) → outcome (recordOf self) frame (length before) ≡ o → Meets o before after answer
     meets o e = subst (λ (x : Outcome). Meets x before after answer) e m
 
-    -- Where the Rust gives, and the buffer has room for the reply: the same verdict and values, the same reply bytes but for the ports of a DHCP reply, and after a drop or a reply the same record.
+    -- Where the Rust gives, and the buffer has room for the reply: the same verdict and values, the same reply bytes but for the ports and the UDP checksum of a DHCP reply, and after a drop or a reply the same record.
     -- (After a call of what is outside it is the record up to that call: `relay_datagram` can take ids at once.)
     pub handle-equals-the-rust : (b : SlirpBackend) → send self (whole frame) ≡ gives b → length (cameOf self b .writing .image) ≤ length before
         → Meets (amendedIn (cameOf self b)) before after answer
     handle-equals-the-rust b e room = meets (amendedIn (cameOf self b)) (at-end (length before) (gives b) e .3 .0 room)
 
-    -- so each byte of the reply outside 34 to 37 is the Rust's
+    -- so each byte of the reply outside 34 to 37 and 40 to 41 is the Rust's
     pub handle-has-the-rusts-bytes : (b : SlirpBackend) → send self (whole frame) ≡ gives b → length (cameOf self b .writing .image) ≤ length before
-        → (place : ℕ) → place < length (cameOf self b .writing .image) → (34 ≤ place → 38 ≤ place) → getD after place 0 ≡ getD (cameOf self b .writing .image) place 0
-    handle-has-the-rusts-bytes b e room place there out =
+        → (place : ℕ) → place < length (cameOf self b .writing .image) → (34 ≤ place → 38 ≤ place) → (40 ≤ place → 42 ≤ place)
+        → getD after place 0 ≡ getD (cameOf self b .writing .image) place 0
+    handle-has-the-rusts-bytes b e room place there out out′ =
         let rust = cameOf self b .writing .image in
         ap (λ (l : List ℕ). getD l place 0) (handle-equals-the-rust b e room .wrote .bytes)
         ∙ List·getD-append (amended rust) _ 0 place (omega (arith, amended-as-long rust, there))
-        ∙ amended-elsewhere rust place out
+        ∙ amended-elsewhere rust place out out′
 
     -- where the frame is no client's DHCP message, all bytes of the reply are the Rust's
     pub handle-equals-the-rust-whole : ((xid : ℕ) → Message frame xid → ⊥) → (b : SlirpBackend) → send self (whole frame) ≡ gives b

@@ -31,7 +31,7 @@ use Rattle.equals_rust.specs.Alike.{recordOf, handoff, writtenAs, added,
 use Rattle.equals_rust.specs.Amended.{carriesUdp, amended, amendedIn, Excepted}
 use Rattle.equals_rust.specs.Types.{Bytes, GuestTyped}
 use Rattle.equals_rust.specs.Where.{HeaderPast}
-use Rattle.equals_rust.proofs.Amended.{amended-as-long, amended-other, arp-other, icmp-other, lease-ports, lease-amended}
+use Rattle.equals_rust.proofs.Amended.{amended-as-long, amended-other, arp-other, icmp-other, lease-from, lease-to, lease-unsummed, lease-amended}
 use Rattle.equals_rust.proofs.Ran.{Ran, send-ran}
 
 -- what a list has got
@@ -159,9 +159,14 @@ module _ (self : SlirpBackend) (frame : List ℕ) where
         replied-whole _ _ _ _ e (icmp-other its) (its .long ∙ ap (λ (n : ℕ). 34 + n) (length-echo (drop start frame) (omega (arith, eight))))
     foretold typed (DhcpReply xid type) s e =
         let sized : Sized (recordOf self) = record { mac = typed .mac .long; network = four-bytes } in
-        let ports = lease-ports (recordOf self) frame xid type sized in
         replied _ _ _ xid 342 e (lease-amended (recordOf self) frame xid type sized) (dhcp-reads-back (recordOf self) frame xid type sized .long)
-        (inr (record { asked = (xid, s .0); from-68 = ports .source-port; to-67 = ports .target-port }))
+        (inr
+        (record {
+          asked = (xid, s .0);
+          from-68 = lease-from (recordOf self) frame xid type sized;
+          to-67 = lease-to (recordOf self) frame xid type sized;
+          no-checksum = lease-unsummed (recordOf self) frame xid type sized;
+        }))
     foretold typed (Dns start len) s e =
         let inside = s .handed .inside in
         quiet _ _ _ _ e (came-called self frame _ (part-again start len inside, refl, refl, refl)) (ap (λ (n : ℕ). unwritten (2 ∷ start ∷ n ∷ []) (recordOf self)) (part-length start len inside))

@@ -14,10 +14,8 @@ use Rattle.dhcp_message.proofs.ReadBack.{reply-reads-back}
 use Rattle.wire.specs.Rfc894.{sourceMac}
 use Rattle.record.specs.Network.{gatewayMac}
 use Rattle.equals_rust.specs.Network.{rustNetwork}
-use Rattle.wire.specs.Rfc768.{datagram}
 use Rattle.wire.specs.Rfc791.{header}
 use Rattle.frames.specs.Frames.{ipFrame}
-use Rattle.frames.proofs.Lengths.{length-datagram}
 use Rattle.base.proofs.Lists.{all-bytes}
 use Rattle.options.specs.Rfc2132.{option, Walked, typed, cut, decides, walk}
 use Rattle.options.proofs.Places.{walkAt, past-end, at-255, at-0, at-last, at-other, at-type, at-cut}
@@ -29,7 +27,7 @@ use Rattle.published.specs.Dhcp.{scan, «message_type», «build_reply», «sen
 use Rattle.equals_rust.proofs.Operations.{index-in, index-past, array-of, copy-over, be32-same}
 use Rattle.equals_rust.proofs.Builders.{ip-frame-given, udp-payload-given}
 use Rattle.equals_rust.proofs.Fields.{eth-src}
-use Rattle.equals_rust.proofs.Amended.{rustLease}
+use Rattle.equals_rust.proofs.Amended.{unsummed, length-unsummed, rustLease}
 use Rattle.equals_rust.specs.Alike.{recordOf}
 use Rattle.equals_rust.specs.Types.{GuestTyped}
 
@@ -127,7 +125,7 @@ module _ (self : SlirpBackend) (frame : List ℕ) (typed : GuestTyped (recordOf 
   unfolding «send_dhcp_reply» rustLease ipFrame
   lease-sent =
       let message = reply rustNetwork (self .«guest_mac») xid type in
-      let whole-datagram = datagram 68 67 message in
+      let whole-datagram = unsummed 68 67 message in
       let size : length message ≡ 300 = reply-reads-back rustNetwork (self .«guest_mac») xid type four-bytes (typed .mac .long) .long in
       rw (
         eth-src frame (omega arith),
@@ -135,6 +133,6 @@ module _ (self : SlirpBackend) (frame : List ℕ) (typed : GuestTyped (recordOf 
         build-reply-given xid type (self .«guest_mac») (typed .mac .long),
         udp-payload-given 68 67 (whole message) (omega (arith, size)),
         ip-frame-given (self .counter) 17 «BCAST_MAC» «GW_IP» «BCAST_IP» (whole whole-datagram) refl refl refl (typed .id) (omega arith)
-            (omega arith, (omega arith, (omega arith, (omega arith, tt)))) (omega arith, (omega arith, (omega arith, (omega arith, tt)))) (omega (arith, size, length-datagram 68 67 message)),
+            (omega arith, (omega arith, (omega arith, (omega arith, tt)))) (omega arith, (omega arith, (omega arith, (omega arith, tt)))) (omega (arith, size, length-unsummed 68 67 message)),
         copy-over [] «BCAST_MAC» (gatewayMac ++ be16 0x0800 ++ header (20 + length whole-datagram) (self .counter) 17 «GW_IP» «BCAST_IP» ++ whole-datagram) (sourceMac frame) 0 6 refl refl refl,
       )

@@ -10,12 +10,12 @@ use lib.Dec.{ltb, eqb}
 use lib.ListN.{length, length-append}
 use Rattle.base.specs.Bytes.{be16, be32, bytesAt}
 use Rattle.base.proofs.Lists.{all-bytes}
-use Rattle.wire.specs.Rfc768.{pseudoHeader}
+use Rattle.wire.specs.Rfc768.{pseudoHeader, covered}
 use Rattle.published.specs.Rust.{Run, gives, cuts, _>>=_, Slice, whole, lenOf, zeros, asU16, u16ToBe}
 use Rattle.published.specs.Frames.{Counted, «make_ip_frame», «make_tcp_frame», checksum as rustChecksum}
-use Rattle.tcp.specs.Rfc9293.{synSet, synOptions, options, segmentHeader, covered, summedHeader, segment, tcpFrame}
+use Rattle.tcp.specs.Rfc9293.{synSet, synOptions, options, segmentHeader, summedHeader, segment, tcpFrame}
 use Rattle.tcp.specs.Builders.{dataLimit}
-use Rattle.tcp.proofs.SumsRight.{length-pseudoHeader}
+use Rattle.wire.proofs.Covered.{length-pseudoHeader}
 use Rattle.tcp.proofs.TcpLaws.{with-syn, without-syn, syn-cases, limit-holds}
 use Rattle.tcp.specs.declared.Endpoints.{Endpoints}
 use Rattle.sums.specs.Rfc1071.{checksum}

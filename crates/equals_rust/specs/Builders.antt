@@ -12,6 +12,7 @@ use Rattle.published.specs.Rust.{Run, gives, panics, cuts, unfinished}
 use Rattle.published.specs.Frames.{Counted}
 use Rattle.record.specs.Answer.{unwritten}
 use Rattle.equals_rust.specs.Alike.{cameOfBuilder, writtenAs, unwrittenAs}
+use Rattle.equals_rust.specs.Amended.{summed}
 
 -- one that takes an id
 pub record FrameEquals (guest : Guest) (run : Run Counted) (limit len : ℕ) (before after : List ℕ) (answer : Answer) : Type 0 where
@@ -26,9 +27,9 @@ pub record FrameEquals (guest : Guest) (run : Run Counted) (limit len : ℕ) (be
   pub never-panics : run ≡ panics → ⊥
   pub ends : run ≡ unfinished → ⊥
 
--- one that takes none
-pub record DatagramEquals (run : Run (List ℕ)) (limit len : ℕ) (before after : List ℕ) (verdict : Verdict) : Type 0 where
-  pub equal : (built : List ℕ) → run ≡ gives built → length built ≤ length before → Wrote (writtenAs built) before after verdict
+-- one that takes none, but two addresses, of which the Rust's knows nothing. Where the Rust gives a datagram and the buffer has room for it: that datagram, with RFC 768's checksum in it (6/13)
+pub record DatagramEquals (from to : List ℕ) (run : Run (List ℕ)) (limit len : ℕ) (before after : List ℕ) (verdict : Verdict) : Type 0 where
+  pub equal : (built : List ℕ) → run ≡ gives built → length built ≤ length before → Wrote (writtenAs (summed from to built)) before after verdict
   pub lacks-room : (built : List ℕ) → run ≡ gives built → length before < length built → Wrote (unwrittenAs (5 ∷ length built ∷ [])) before after verdict
   pub cuts-exactly : (run ≡ cuts) ↔ (limit < len)
   pub too-long : run ≡ cuts → Wrote (unwrittenAs (6 ∷ len ∷ [])) before after verdict

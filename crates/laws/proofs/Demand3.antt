@@ -7,13 +7,15 @@ use lib.ListN.{length, take, drop}
 use Rattle.base.specs.Bytes.{part}
 use Rattle.record.specs.Guest.{Sized}
 use Rattle.record.specs.Answer.{paper, Wrote, Meets}
-use Rattle.frames.specs.Builders.{makeIpFrame, makeIpFrameInPlace, makeUdpPayload}
+use Rattle.datagrams.specs.Builders.{makeUdpPayload}
+use Rattle.frames.specs.Builders.{makeIpFrame, makeIpFrameInPlace}
 use Rattle.wire.specs.Rfc768.{datagram}
 use Rattle.record.specs.declared.answer.Answer.{Answer}
 use Rattle.record.specs.declared.guest.Guest.{Guest}
 use Rattle.record.specs.declared.answer.Verdict.{Verdict}
-use Rattle.frames.proofs.InBuffer.{ip-frame-in-buffer, ip-frame-in-place-in-buffer, datagram-in-buffer}
-use Rattle.grammar.specs.Grammar.{Derivation, Derives}
+use Rattle.datagrams.proofs.InBuffer.{datagram-in-buffer}
+use Rattle.frames.proofs.InBuffer.{ip-frame-in-buffer, ip-frame-in-place-in-buffer}
+use Rattle.grammar.specs.Grammar.{body, Derivation, Derives}
 use Rattle.grammar.specs.Report.{refused, partsOf, Reads}
 use Rattle.reader.specs.Reported.{reportOf}
 use Rattle.reader.specs.declared.parts.Reading.{Reading}
@@ -24,9 +26,9 @@ use Rattle.tcp.specs.Builders.{makeTcpFrame}
 use Rattle.tcp.specs.Rfc9293.{options, segment, tcpFrame}
 use Rattle.tcp.specs.declared.Endpoints.{Endpoints}
 use Rattle.tcp.proofs.InBuffer.{tcp-frame-in-buffer}
-use Rattle.laws.specs.Derivations.{DerivedAs, otherDerivation, udpDerivation, tcpDerivation}
+use Rattle.laws.specs.Derivations.{DerivedAs, otherDerivation, udpDerivation, tcpDerivation, Summed}
 use Rattle.laws.proofs.Demand1.{on-one}
-use Rattle.laws.proofs.Derived.{other-derived, udp-derived, tcp-derived}
+use Rattle.laws.proofs.Derived.{other-derived, datagram-summed, udp-derived, tcp-derived}
 use Rattle.laws.proofs.DerivedIp.{Packet, packet-in-buffer}
 use Rattle.laws.proofs.DerivedReplies.{built-derived, some-derivation}
 
@@ -104,14 +106,19 @@ module _ (guest : Guest) (mac source target before after : List ℕ) (answer : A
     ip-frame-in-place-derived len m = other-derived _ n source target protocol (part before 34 len) (made-in-place protocol len m) no-1 no-6 no-17
 
   module _ (from to : ℕ) (d before′ after′ : List ℕ) (v : Verdict) (k : ℕ) (no-67-68 : from ≡ 67 → to ≡ 68 → ⊥) (no-68-67 : from ≡ 68 → to ≡ 67 → ⊥)
-      (w : Wrote (makeUdpPayload from to d (length before′)) before′ after′ v) (one′ : paper v ≡ 1 ∷ k ∷ []) where
-    its-datagram : take k after′ ≡ datagram from to d
-    its-datagram = datagram-in-buffer before′ after′ v k from to d one′ w .front
+      (w : Wrote (makeUdpPayload source target from to d (length before′)) before′ after′ v) (one′ : paper v ≡ 1 ∷ k ∷ []) where
+    its-datagram : take k after′ ≡ datagram source target from to d
+    its-datagram = datagram-in-buffer before′ after′ v k source target from to d one′ w .front
 
-    -- Every frame of `make_ip_frame` around a datagram of `make_udp_payload`, whose `k` bytes are the first of another buffer, with any ports but 67 and 68 in either order: UDP.
-    pub udp-frame-derived : Meets (makeIpFrame guest mac source target 17 (take k after′) (length before)) before after answer → Derives (take n after) (udpDerivation n)
-    udp-frame-derived m = udp-derived _ n source target from to d (rw its-datagram at (made 17 (take k after′) m)) no-67-68 no-68-67
+    as-udp : Packet (take n after) n 17 source target (datagram source target from to d) → Derives (take n after) (udpDerivation n) × Summed (body (take n after))
+    as-udp p = (udp-derived _ n source target four four′ from to d p no-67-68 no-68-67, datagram-summed _ n source target four four′ from to d p)
+
+    -- Every frame of `make_ip_frame` around a datagram of `make_udp_payload` between the same addresses, whose `k` bytes are the first of another buffer, with any ports but 67 and 68 in either
+    -- order: UDP, by the summed case.
+    pub udp-frame-derived : Meets (makeIpFrame guest mac source target 17 (take k after′) (length before)) before after answer → Derives (take n after) (udpDerivation n) × Summed (body (take n after))
+    udp-frame-derived m = as-udp (rw its-datagram at (made 17 (take k after′) m))
 
     -- The same of `make_ip_frame_in_place`, where the other buffer is this one from 34 on.
-    pub udp-frame-in-place-derived : drop 34 before ≡ after′ → Meets (makeIpFrameInPlace guest mac source target 17 k before) before after answer → Derives (take n after) (udpDerivation n)
-    udp-frame-in-place-derived e m = udp-derived _ n source target from to d (rw (e, its-datagram) at (made-in-place 17 k m)) no-67-68 no-68-67
+    pub udp-frame-in-place-derived : drop 34 before ≡ after′ → Meets (makeIpFrameInPlace guest mac source target 17 k before) before after answer
+        → Derives (take n after) (udpDerivation n) × Summed (body (take n after))
+    udp-frame-in-place-derived e m = as-udp (rw (e, its-datagram) at (made-in-place 17 k m))

@@ -5,22 +5,22 @@ use mathlib.Core.Logic.{inl, inr}
 use mathlib.Core.List.{List}
 use native.Mathlib.Omega.{arith}
 use lib.ListN.{length, length-drop}
-use Rattle.wire.specs.Rfc768.{datagram}
+use Rattle.wire.specs.Rfc768.{covered, datagram}
 use Rattle.record.specs.declared.network.Network.{Network}
-use Rattle.frames.proofs.Lengths.{length-datagram}
-use Rattle.frames.proofs.ReadBack.{DatagramOf, datagram-reads-back}
-use Rattle.grammar.specs.Grammar.{body, payload, CarriesDHCP, dataOffset, unsummed, UDP, Derives}
+use Rattle.datagrams.proofs.Datagram.{length-datagram}
+use Rattle.datagrams.proofs.ReadBack.{DatagramOf, datagram-reads-back}
+use Rattle.grammar.specs.Grammar.{body, payload, CarriesDHCP, dataOffset, summed, UDP, Derives}
 use Rattle.grammar.proofs.Places.{placed}
 use Rattle.wire.specs.Rfc792.{echo}
 use Rattle.arp_reply.specs.Reply.{arpReply}
 use Rattle.arp_reply.proofs.ReadBack.{arp-reads-back}
 use Rattle.echo_reply.proofs.ReadBack.{echo-reads-back}
-use Rattle.tcp.specs.Rfc9293.{options, segment, covered}
+use Rattle.tcp.specs.Rfc9293.{options, segment}
 use Rattle.tcp.specs.declared.Endpoints.{Endpoints}
 use Rattle.tcp.proofs.ReadBack.{SegmentOf, segment-reads-back}
 use Rattle.tcp.proofs.SumsRight.{segment-sums-right}
 use Rattle.tcp.proofs.TcpLaws.{length-segment, syn-cases}
-use Rattle.laws.specs.Derivations.{arpDerivation, otherDerivation, icmpDerivation, udpDerivation, tcpDerivation}
+use Rattle.laws.specs.Derivations.{arpDerivation, otherDerivation, icmpDerivation, udpDerivation, tcpDerivation, Summed}
 use Rattle.laws.proofs.DerivedIp.{Packet, payload-placed}
 
 -- an ARP reply
@@ -73,27 +73,32 @@ module _ (frame : List ℕ) (n : ℕ) (source target : List ℕ) where
         payload-placed p 8 42 refl,
       )
 
-  -- a datagram
-  pub datagram-derived : (sport dport : ℕ) (d : List ℕ) → Packet frame n 17 source target (datagram sport dport d) → UDP (body frame)
-  datagram-derived sport dport d p =
-      let a : DatagramOf (payload (body frame)) sport dport = rw (p .payload-is) (datagram-reads-back sport dport d) in
-      record {
-        carried = p .protocol-is;
-        size = omega (arith, ap length (p .payload-is), length-datagram sport dport d);
-        stated = a .length-is;
-        sums = unsummed (a .checksum-0);
-      }
+  -- a datagram between the frame's own addresses
+  module _ (four : length source ≡ 4) (four′ : length target ≡ 4) (sport dport : ℕ) (d : List ℕ) (p : Packet frame n 17 source target (datagram source target sport dport d)) where
+    its-fields : DatagramOf (payload (body frame)) source target sport dport d
+    its-fields = rw (p .payload-is) (datagram-reads-back source target four four′ sport dport d)
 
-  -- a datagram that carries no DHCP
-  pub udp-derived : (sport dport : ℕ) (d : List ℕ) → Packet frame n 17 source target (datagram sport dport d)
-      → (sport ≡ 67 → dport ≡ 68 → ⊥) → (sport ≡ 68 → dport ≡ 67 → ⊥) → Derives frame (udpDerivation n)
-  unfolding Derives
-  udp-derived sport dport d p no-67-68 no-68-67 =
-      let a : DatagramOf (payload (body frame)) sport dport = rw (p .payload-is) (datagram-reads-back sport dport d) in
-      let from = sym (a .source-port) in
-      let to = sym (a .target-port) in
-      let no-dhcp : CarriesDHCP (body frame) → ⊥ = elim [ inl c ↦ no-67-68 (from ∙ c .0) (to ∙ c .1) | inr c ↦ no-68-67 (from ∙ c .0) (to ∙ c .1) ] in
-      (p .ethernet, p .ip, datagram-derived sport dport d p, p .ethernet-placed, p .ip-placed, payload-placed p 8 42 refl, no-dhcp)
+    pub datagram-summed : Summed (body frame)
+    unfolding covered
+    datagram-summed = record { not-zero = its-fields .summed; sums = rw (p .pseudo-is, p .payload-is) (datagram-reads-back source target four four′ sport dport d .sums) }
+
+    pub datagram-derived : UDP (body frame)
+    datagram-derived =
+        record {
+          carried = p .protocol-is;
+          size = omega (arith, ap length (p .payload-is), length-datagram source target sport dport d);
+          stated = its-fields .length-is;
+          sums = summed (datagram-summed .not-zero) (datagram-summed .sums);
+        }
+
+    -- one that carries no DHCP
+    pub udp-derived : (sport ≡ 67 → dport ≡ 68 → ⊥) → (sport ≡ 68 → dport ≡ 67 → ⊥) → Derives frame (udpDerivation n)
+    unfolding Derives
+    udp-derived no-67-68 no-68-67 =
+        let from = sym (its-fields .source-port) in
+        let to = sym (its-fields .target-port) in
+        let no-dhcp : CarriesDHCP (body frame) → ⊥ = elim [ inl c ↦ no-67-68 (from ∙ c .0) (to ∙ c .1) | inr c ↦ no-68-67 (from ∙ c .0) (to ∙ c .1) ] in
+        (p .ethernet, p .ip, datagram-derived, p .ethernet-placed, p .ip-placed, payload-placed p 8 42 refl, no-dhcp)
 
 -- a segment
 pub tcp-derived : (frame : List ℕ) (n : ℕ) (ends : Endpoints) (seq ack flags : ℕ) (d : List ℕ) → length (ends .«src_ip») ≡ 4 → length (ends .«dst_ip») ≡ 4

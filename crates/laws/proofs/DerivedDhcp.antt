@@ -13,7 +13,7 @@ use Rattle.dhcp_message.proofs.ReadBack.{reply-reads-back}
 use Rattle.base.specs.Bytes.{be32, u8At, u16At}
 use Rattle.wire.specs.Rfc768.{datagram}
 use Rattle.record.specs.declared.network.Network.{Network}
-use Rattle.frames.proofs.Lengths.{length-datagram}
+use Rattle.datagrams.proofs.Datagram.{length-datagram}
 use Rattle.base.proofs.Lists.{all-bytes}
 use Rattle.grammar.specs.Grammar.{body, payload, ItemList, END, item, option, IsList, options53, DHCP, dataAt, Derives}
 use Rattle.grammar.specs.Report.{partsOf}
@@ -21,7 +21,7 @@ use Rattle.grammar.proofs.Places.{placed}
 use Rattle.rules.specs.declared.decision.Decision.the-variants.{DhcpReply}
 use Rattle.laws.specs.Derivations.{replyItems, DerivedAs}
 use Rattle.laws.proofs.DerivedIp.{Packet, payload-placed, payload-byte}
-use Rattle.laws.proofs.Derived.{datagram-derived}
+use Rattle.laws.proofs.Derived.{datagram-summed, datagram-derived}
 
 -- an option in front of a list
 option-then : (at code len next : ℕ) (value rest : List ℕ) (items : ItemList) → 1 ≤ code → code ≤ 254 → length value ≡ len → next ≡ at + 2 + len
@@ -81,10 +81,11 @@ module _ (net : Network) (mac : List ℕ) (xid type : ℕ) (four : FourBytes net
       }
 
   -- its frame
-  pub dhcp-derived : (frame : List ℕ) (n : ℕ) (source target : List ℕ) → Packet frame n 17 source target (datagram replySource replyTarget (reply net mac xid type)) → 1 ≤ type → type ≤ 8
+  pub dhcp-derived : (frame : List ℕ) (n : ℕ) (source target : List ℕ) → length source ≡ 4 → length target ≡ 4
+      → Packet frame n 17 source target (datagram source target replySource replyTarget (reply net mac xid type)) → 1 ≤ type → type ≤ 8
       → DerivedAs n frame (DhcpReply xid type)
   unfolding Derives partsOf options53 datagram
-  dhcp-derived frame n source target p least most =
+  dhcp-derived frame n source target source-4 target-4 p least most =
       let m = reply net mac xid type in
       let r = reply-reads-back net mac xid type four six in
       let inner : drop 42 frame ≡ m = sym (drop-drop 8 34 frame) ∙ ap (drop 8) (p .behind) in
@@ -92,11 +93,11 @@ module _ (net : Network) (mac : List ℕ) (xid type : ℕ) (four : FourBytes net
       let from : u16At (payload (body frame)) 0 ≡ 67 = rw (p .payload-is) in
       let to : u16At (payload (body frame)) 2 ≡ 68 = rw (p .payload-is) in
       let at : dataAt frame ≡ 42 = omega (arith, p .payload-at) in
-      let stop : n ≡ 42 + length (drop 42 frame) = omega (arith, p .long, r .long, length-datagram replySource replyTarget m, ap length inner) in (
+      let stop : n ≡ 42 + length (drop 42 frame) = omega (arith, p .long, r .long, length-datagram source target replySource replyTarget m, ap length inner) in (
         (
           p .ethernet,
           p .ip,
-          datagram-derived frame n source target replySource replyTarget m p,
+          datagram-derived frame n source target source-4 target-4 replySource replyTarget m p,
           p .ethernet-placed,
           p .ip-placed,
           payload-placed p 8 42 refl,
@@ -107,4 +108,5 @@ module _ (net : Network) (mac : List ℕ) (xid type : ℕ) (four : FourBytes net
         rw t,
         from,
         to,
+        datagram-summed frame n source target source-4 target-4 replySource replyTarget m p,
       )

@@ -44,8 +44,8 @@ module _ (guest : Guest) (frame : List ℕ) (sized : Sized guest) where
       (packet (sourceMac frame) (net .gateway) (sourceOf (body frame)) (echo (drop start frame)) (guest .id) 1 refl (sized .network .gateway) refl n e)
   derived-as (DhcpReply xid type) s n e p =
       let t = among-8 type (s .1) in
-      dhcp-derived net (guest .mac) xid type (sized .network) (sized .mac) _ n (net .gateway) (broadcastOf net)
-      (packet (sourceMac frame) (net .gateway) (broadcastOf net) (datagram replySource replyTarget (reply net (guest .mac) xid type)) (guest .id) 17 refl (sized .network .gateway) refl n e)
+      dhcp-derived net (guest .mac) xid type (sized .network) (sized .mac) _ n (net .gateway) (broadcastOf net) (sized .network .gateway) refl
+      (packet (sourceMac frame) (net .gateway) (broadcastOf net) (datagram (net .gateway) (broadcastOf net) replySource replyTarget (reply net (guest .mac) xid type)) (guest .id) 17 refl (sized .network .gateway) refl n e)
       (t .0) (t .1)
   derived-as Drop s n e p = omega arith
   derived-as (DropNoting xid) s n e p = omega arith

@@ -70,21 +70,21 @@ module _ (id xid : ℕ) (frame : List ℕ) (xid′ type : ℕ) where
   of net mac = known mac id xid net
 
   Lease : Network → List ℕ → Network → Type 0
-  Lease net mac net′ = DifferAt (dhcpPlaces (of net mac)) (dhcpPlaces (of net′ mac)) (dhcpFrame (of net mac) frame xid′ type) (dhcpFrame (of net′ mac) frame xid′ type)
+  Lease net mac net′ = DifferAt (dhcpPlaces (of net mac) xid′ type) (dhcpPlaces (of net′ mac) xid′ type) (dhcpFrame (of net mac) frame xid′ type) (dhcpFrame (of net′ mac) frame xid′ type)
 
   leases-differ : (net : Network) (mac : List ℕ) (net′ : Network) → Lease (spelt net) (bytesAt mac 0 6) (spelt net′)
   unfolding Lease spelt dhcpFrameTo ipFrame datagram reply header headerWith blanked
   leases-differ net mac net′ =
       record {
-        own = (refl, (refl, (refl, (refl, (refl, (refl, (refl, (refl, (refl, (refl, tt))))))))));
-        own′ = (refl, (refl, (refl, (refl, (refl, (refl, (refl, (refl, (refl, (refl, tt))))))))));
+        own = (refl, (refl, (refl, (refl, (refl, (refl, (refl, (refl, (refl, (refl, (refl, tt)))))))))));
+        own′ = (refl, (refl, (refl, (refl, (refl, (refl, (refl, (refl, (refl, (refl, (refl, tt)))))))))));
         as-long = refl;
-        same-elsewhere = same-but-there (dhcpPlaces (of (spelt net) (bytesAt mac 0 6))) (dhcpFrame (of (spelt net) (bytesAt mac 0 6)) frame xid′ type) (dhcpFrame (of (spelt net′) (bytesAt mac 0 6)) frame xid′ type) refl;
+        same-elsewhere = same-but-there (dhcpPlaces (of (spelt net) (bytesAt mac 0 6)) xid′ type) (dhcpFrame (of (spelt net) (bytesAt mac 0 6)) frame xid′ type) (dhcpFrame (of (spelt net′) (bytesAt mac 0 6)) frame xid′ type) refl;
       }
 
 -- The replies to one DHCP message, which is answered whatever the network.
 pub dhcp-replies-differ : (guest : Guest) (net : Network) (frame : List ℕ) (xid type : ℕ) → Sized guest → FourBytes net → decision (guest .network) frame ≡ DhcpReply xid type
-    → DifferAt (dhcpPlaces guest) (dhcpPlaces (onNetwork net guest)) (replyAtAmpleRoom guest frame) (replyAtAmpleRoom (onNetwork net guest) frame)
+    → DifferAt (dhcpPlaces guest xid type) (dhcpPlaces (onNetwork net guest) xid type) (replyAtAmpleRoom guest frame) (replyAtAmpleRoom (onNetwork net guest) frame)
 unfolding replyAtAmpleRoom Says Lease
 dhcp-replies-differ guest net frame xid type sized four e =
     let m = subst (Says (guest .network) frame) e (says (guest .network) frame) .0 in

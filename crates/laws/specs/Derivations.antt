@@ -1,10 +1,11 @@
 -- The derivation, by the frame grammar, of each kind of frame that we build: where its headers and payloads start and stop, in a frame of `n` bytes.
 use Prim.Native.Nat.{ℕ, _+_}
 use mathlib.Core.Path.{_≡_}
-use mathlib.Core.List.{List, [], _∷_}
+use mathlib.Core.List.{List, [], _∷_, _++_}
 use Rattle.base.specs.Bytes.{u16At}
-use Rattle.grammar.specs.Grammar.{body, payload, laid, ItemList, END, item, option, Derivation, arp, otherIPv4, icmp, udp, dhcp, tcp, Derives}
+use Rattle.grammar.specs.Grammar.{body, payload, pseudoHeader, laid, ItemList, END, item, option, Derivation, arp, otherIPv4, icmp, udp, dhcp, tcp, Derives}
 use Rattle.grammar.specs.Report.{parts, partsOf, dhcpKind}
+use Rattle.sums.specs.Rfc1071.{SumsRight}
 use Rattle.rules.specs.declared.decision.Decision.{Decision}
 use Rattle.rules.specs.declared.decision.Decision.the-variants.{Drop, DropNoting, ArpReply, EchoReply, DhcpReply, Dns, Relay, Tcp, TooLong, CutType}
 
@@ -39,8 +40,13 @@ replyItems =
 abbrev pub dhcpDerivation : (n : ℕ) → Derivation
 dhcpDerivation n = dhcp (laid 0 14 n) (laid 14 34 n) (laid 34 42 n) (laid 42 282 n) replyItems
 
--- A reply of `n` bytes is derived, with the kind of the decision behind it; the message type that the reader has to report of a DHCP reply is the decision's, and of
--- the grammar's two orders of ports it has the server's. The other decisions build none.
+-- of the grammar's two cases of a UDP checksum the second: "not zero and sums right with its pseudo-header"
+pub record Summed (packet : List ℕ) : Type 0 where
+  pub not-zero : u16At (payload packet) 6 ≡ 0 → ⊥
+  pub sums : SumsRight (pseudoHeader packet ++ payload packet)
+
+-- A reply of `n` bytes is derived, with the kind of the decision behind it; the message type that the reader has to report of a DHCP reply is the decision's, of
+-- the grammar's two orders of ports it has the server's, and of its two cases of a checksum the summed one. The other decisions build none.
 abbrev pub DerivedAs : (n : ℕ) (reply : List ℕ) → Decision → Type 0
 DerivedAs n reply ArpReply = Derives reply (arpDerivation n)
 DerivedAs n reply (EchoReply start) = Derives reply (icmpDerivation n)
@@ -49,6 +55,7 @@ DerivedAs n reply (DhcpReply xid type) =
     × (partsOf reply (dhcpDerivation n) ≡ parts dhcpKind (laid 0 14 n ∷ laid 14 34 n ∷ laid 34 42 n ∷ laid 42 282 n ∷ []) (type ∷ []))
     × (u16At (payload (body reply)) 0 ≡ 67)
     × (u16At (payload (body reply)) 2 ≡ 68)
+    × Summed (body reply)
 DerivedAs n reply Drop = ⊥
 DerivedAs n reply (DropNoting xid) = ⊥
 DerivedAs n reply (Dns start len) = ⊥

@@ -1,5 +1,5 @@
--- The marked cases of document 01 ("Bytes to check"), in one table, and what it means that a row holds; behind them the cases that are not marked. The replies' bytes were taken from the published Rust, but for the ports of D0, which document 02 (2/13) amends;
--- `replay` has the same calls among its lines. A row is about the definitions that the contract of `handle` cites; that an answer is the row's follows (`answered-as-in-the-row`).
+-- The marked cases of document 01 ("Bytes to check"), in one table, and what it means that a row holds; behind them the cases that are not marked. The replies' bytes were taken from the published Rust, but for the ports of D0, which document 02 (2/13) amends,
+-- and its last two bytes, which are left out (6/13: "D0's last two bytes are left out of its table and become the checksum of the reply at hand"); `replay` has the same calls among its lines. A row is about the definitions that the contract of `handle` cites; that an answer is the row's follows (`answered-as-in-the-row`).
 use Prim.Native.Nat.{ℕ, _+_, _-_}
 use mathlib.Core.Path.{_≡_}
 use mathlib.Core.List.{List, [], _∷_, _++_}
@@ -10,6 +10,7 @@ use Rattle.record.specs.Network.{document01}
 use Rattle.record.specs.declared.guest.Guest.{Guest}
 use Rattle.rules.specs.Rules.{outcome}
 use Rattle.sums.specs.Rfc1071.{checksum}
+use Rattle.wire.specs.Rfc768.{checksumOf}
 
 pub data Case : Type 0 where
   -- the bytes summed and their checksum
@@ -63,13 +64,17 @@ message after =
     ++ (0x00 ∷ 0x44 ∷ 0x00 ∷ 0x43 ∷ []) ++ be16 (248 + length after) ++ (0x00 ∷ 0x00 ∷ [])
     ++ (0x01 ∷ 0x01 ∷ 0x06 ∷ 0x00 ∷ 0x11 ∷ 0x22 ∷ 0x33 ∷ 0x44 ∷ []) ++ replicate 228 0 ++ (0x63 ∷ 0x82 ∷ 0x53 ∷ 0x63 ∷ []) ++ after
 
--- the reply of this type, 342 bytes
-abbrev pub dhcpReply : (type : ℕ) → List ℕ
-dhcpReply type =
+-- the reply of this type: its first 40 bytes
+abbrev pub beforeChecksum : List ℕ
+beforeChecksum =
     (0x02 ∷ 0x00 ∷ 0x00 ∷ 0x00 ∷ 0x00 ∷ 0x0b ∷ 0x52 ∷ 0x54 ∷ 0x00 ∷ 0x00 ∷ 0x00 ∷ 0x01 ∷ 0x08 ∷ 0x00 ∷ [])
     ++ (0x45 ∷ 0x00 ∷ 0x01 ∷ 0x48 ∷ 0x00 ∷ 0x01 ∷ 0x40 ∷ 0x00 ∷ 0x40 ∷ 0x11 ∷ 0x20 ∷ 0xa4 ∷ 0x0a ∷ 0x00 ∷ 0x02 ∷ 0x02 ∷ 0x0a ∷ 0x00 ∷ 0x02 ∷ 0xff ∷ [])  -- D0: IPv4, with its checksum 0x20a4
-    ++ (0x00 ∷ 0x43 ∷ 0x00 ∷ 0x44 ∷ 0x01 ∷ 0x34 ∷ 0x00 ∷ 0x00 ∷ [])  -- D0, amended by document 02, 2/13: UDP, from 67 to 68
-    ++ (0x02 ∷ 0x01 ∷ 0x06 ∷ 0x00 ∷ 0x11 ∷ 0x22 ∷ 0x33 ∷ 0x44 ∷ []) ++ replicate 8 0
+    ++ (0x00 ∷ 0x43 ∷ 0x00 ∷ 0x44 ∷ 0x01 ∷ 0x34 ∷ [])  -- D0, amended by document 02, 2/13: UDP, from 67 to 68
+
+-- and its last 300
+abbrev pub behindChecksum : (type : ℕ) → List ℕ
+behindChecksum type =
+    (0x02 ∷ 0x01 ∷ 0x06 ∷ 0x00 ∷ 0x11 ∷ 0x22 ∷ 0x33 ∷ 0x44 ∷ []) ++ replicate 8 0
     ++ (0x0a ∷ 0x00 ∷ 0x02 ∷ 0x0f ∷ 0x0a ∷ 0x00 ∷ 0x02 ∷ 0x02 ∷ 0x00 ∷ 0x00 ∷ 0x00 ∷ 0x00 ∷ [])
     ++ (0x52 ∷ 0x54 ∷ 0x00 ∷ 0x12 ∷ 0x34 ∷ 0x56 ∷ []) ++ replicate 202 0
     ++ (0x63 ∷ 0x82 ∷ 0x53 ∷ 0x63 ∷ [])
@@ -81,6 +86,13 @@ dhcpReply type =
     ++ (0x06 ∷ 0x04 ∷ 0x0a ∷ 0x00 ∷ 0x02 ∷ 0x02 ∷ [])
     ++ (0xff ∷ [])
     ++ replicate 26 0
+
+-- D0's last two bytes: the checksum of the reply at hand, by RFC 768 from 10.0.2.2 to 10.0.2.255. That with them the datagram sums right, and that they aren't 0, is proved (`replies-sum-right`).
+abbrev pub itsChecksum : (type : ℕ) → List ℕ
+itsChecksum type = be16 (checksumOf (0x0a ∷ 0x00 ∷ 0x02 ∷ 0x02 ∷ []) (0x0a ∷ 0x00 ∷ 0x02 ∷ 0xff ∷ []) 0x43 0x44 0x134 (behindChecksum type))
+
+abbrev pub dhcpReply : (type : ℕ) → List ℕ
+dhcpReply type = beforeChecksum ++ itsChecksum type ++ behindChecksum type
 
 abbrev pub marked : List Case
 marked =

@@ -7,10 +7,12 @@ use mathlib.Core.List.{List, [], _∷_}
 use lib.Dec.{leb, ltb}
 use lib.ListN.{length, getD}
 use Rattle.base.specs.Bytes.{be16, be32, part}
+use Rattle.wire.specs.Rfc768.{checksumOf}
 use Rattle.wire.specs.Rfc791.{headerWith, sourceOf}
 use Rattle.wire.specs.Rfc826 as Arp
 use Rattle.wire.specs.Rfc894.{body, sourceMac}
 use Rattle.sums.specs.Rfc1071.{checksum}
+use Rattle.dhcp_message.specs.Message.{reply}
 use Rattle.record.specs.Guest.{known}
 use Rattle.record.specs.Network.{broadcastOf}
 use Rattle.record.specs.declared.guest.Guest.{Guest}
@@ -58,12 +60,18 @@ echoPlaces guest frame =
     ∷ at 26 4 (guest .network .gateway)  -- IPv4: the source
     ∷ []
 
--- a DHCP reply
-abbrev pub dhcpPlaces : Guest → List Place
-dhcpPlaces guest =
+-- the checksum of a DHCP reply's datagram
+abbrev pub datagramSumOf : Guest → (xid type : ℕ) → List ℕ
+datagramSumOf guest xid type =
+    be16 (checksumOf (guest .network .gateway) (broadcastOf (guest .network)) 67 68 308 (reply (guest .network) (guest .mac) xid type))
+
+-- a DHCP reply of this type
+abbrev pub dhcpPlaces : Guest → (xid type : ℕ) → List Place
+dhcpPlaces guest xid type =
     at 24 2 (sumOf guest 328 17 (broadcastOf (guest .network)))  -- IPv4: the header's checksum
     ∷ at 26 4 (guest .network .gateway)  -- IPv4: the source
     ∷ at 30 4 (broadcastOf (guest .network))  -- IPv4: the target
+    ∷ at 40 2 (datagramSumOf guest xid type)  -- UDP: the checksum
     ∷ at 58 4 (guest .network .guest)  -- yiaddr
     ∷ at 62 4 (guest .network .gateway)  -- siaddr
     ∷ at 287 4 (guest .network .gateway)  -- option 54
