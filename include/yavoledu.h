@@ -113,7 +113,8 @@ uint32_t yavoledu_make_guest(yavoledu_guest *guest, const uint8_t mac[6], const 
 
 /* What a frame of this guest gets. The data of 2 and 3 is the frame's own: frame + values[0], values[1] bytes.
  * With 65,549 bytes of room 5 is never answered, nor with frame_len + 16 and 342 at least; no reply is longer.
- * A DHCP reply goes from port 67 to port 68, to the frame's source MAC and the network's broadcast address. */
+ * A DHCP reply goes from port 67 to port 68, to the frame's source MAC and the network's broadcast address.
+ * It has a UDP checksum, as yavoledu_make_udp_payload writes it. */
 uint32_t yavoledu_send(yavoledu_guest *guest, const uint8_t *frame, size_t frame_len, uint8_t *reply, size_t reply_len,
                        size_t values[2]);
 
@@ -125,8 +126,15 @@ uint32_t yavoledu_make_ip_frame(uint16_t *id, const uint8_t dst_mac[6], const ui
                                 uint8_t proto, const uint8_t *payload, size_t payload_len, uint8_t *out, size_t out_len,
                                 size_t values[2]);
 
-/* A UDP datagram, checksum 0, around at most 65,527 bytes of data: 8 bytes and the data. */
-uint32_t yavoledu_make_udp_payload(uint16_t src_port, uint16_t dst_port, const uint8_t *data, size_t data_len, uint8_t *out,
+/* A UDP datagram around at most 65,527 bytes of data: 8 bytes and the data. Its checksum is that of RFC 768,
+ * over the pseudo-header (both addresses, 0, 17, the length), the header and the data. Where it comes to 0,
+ * 0xffff is written: a checksum of 0, which says that there is none, is never sent. The addresses are no part
+ * of the datagram. They have to be those of the IPv4 header around it, or else its receiver finds the checksum
+ * wrong. 6, with data_len, is decided before 5, with 8 bytes more than data_len.
+ * Before document 02's request 6/13 it took no addresses and wrote 0: what was compiled with that header has
+ * to be compiled anew. */
+uint32_t yavoledu_make_udp_payload(const uint8_t src_ip[4], uint16_t src_port, const uint8_t dst_ip[4],
+                                   uint16_t dst_port, const uint8_t *data, size_t data_len, uint8_t *out,
                                    size_t out_len, size_t values[2]);
 
 /* A TCP segment in an IPv4 frame: 54 bytes and the data. Where bit 0x02 of the flags is set, eight option bytes stand

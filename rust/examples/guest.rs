@@ -10,8 +10,9 @@
 //! Each frame of the guest goes to the gateway, with the one record that the guest has: it is known by its
 //! socket, whatever its frames say. A reply is written back. The words behind MAC ask for a network, as those
 //! of the example `tap` do; without them it is document 01's. What the gateway hands to its host is printed
-//! in the words of `tap`, and served by nobody. The frames of both directions are written into the file
-//! CAPTURE, which tcpdump reads. Nothing else is opened. It ends with QEMU, and then prints a tally.
+//! in the words of `tap`, and served by nobody but for the echo at port 7, as there. The frames of both
+//! directions are written into the file CAPTURE, which tcpdump reads. Nothing else is opened. It ends with
+//! QEMU, and then prints a tally.
 //!
 //! A stream that ends inside a frame, or names a length that no frame has, ends it too, with a message and
 //! status 1. `rust/real-guest` shows it at work.
@@ -318,6 +319,60 @@ mod tests {
             assert_eq!(capture[at + 16..at + 58], *frame);
         }
         assert_eq!(capture.len(), 140);
+    }
+
+    /// A datagram from 10.0.2.15, port 40,000, to 192.0.2.1, in a frame with no checksums.
+    fn datagram(port: u16, data: &[u8]) -> Vec<u8> {
+        let length = (8 + data.len()) as u16;
+        [
+            &[0x52, 0x54, 0, 0, 0, 1],
+            &MAC[..],
+            &[8, 0, 0x45, 0, 0, 0, 0, 0, 0, 0, 64, 17, 0, 0],
+            &[10, 0, 2, 15, 192, 0, 2, 1],
+            &40_000_u16.to_be_bytes(),
+            &port.to_be_bytes(),
+            &length.to_be_bytes(),
+            &[0, 0],
+            data,
+        ]
+        .concat()
+    }
+
+    fn served(frame: &[u8]) -> Vec<u8> {
+        let bytes = [&(frame.len() as u32).to_be_bytes()[..], frame].concat();
+        let (served, written, _) = serve(&bytes);
+        assert_eq!(served, Ok(()));
+        written
+    }
+
+    #[test]
+    fn what_is_sent_to_port_7_comes_back_from_there() {
+        let longest = vec![0xa5; 65_507];
+        for data in [&b""[..], b"1", b"hello", &longest] {
+            let written = served(&datagram(7, data));
+            let (length, frame) = written.split_at(4);
+            assert_eq!(length, (42 + data.len() as u32).to_be_bytes());
+            assert_eq!(
+                frame[..12],
+                [0x52, 0x54, 0, 0x12, 0x34, 0x56, 0x52, 0x54, 0, 0, 0, 1]
+            );
+            assert_eq!(frame[26..34], [192, 0, 2, 1, 10, 0, 2, 15]);
+            assert_eq!(frame[34..38], [0, 7, 0x9c, 0x40]);
+            assert_eq!(frame[42..], *data);
+            // The strict reader takes a frame with right checksums alone, and 0 was none of the datagram's.
+            assert!(matches!(
+                yavoledu::read(frame),
+                Some(yavoledu::Reading::Udp { .. })
+            ));
+            assert_ne!(frame[40..42], [0, 0]);
+        }
+    }
+
+    #[test]
+    fn what_is_sent_to_another_port_or_is_too_long_for_an_echo_does_not_come_back() {
+        for frame in [datagram(8, b"hello"), datagram(7, &[0xa5; 65_508])] {
+            assert_eq!(served(&frame), []);
+        }
     }
 
     #[test]

@@ -8,14 +8,17 @@
 //! ones, 24), and this lease time in seconds, or the library's default. Behind NAME alone it is document
 //! 01's.
 //! What the gateway hands to its host (DNS, relay, TCP) is printed, a line each, and served by nobody;
-//! so are refusals. Nothing but the device is opened. SIGTERM and SIGINT end it, with a tally.
+//! so are refusals. But a datagram that is relayed to port 7, of any address, gets its own data back from
+//! there (echo, RFC 862). Nothing but the device is opened. SIGTERM and SIGINT end it, with a tally, in
+//! which an echo counts as a reply.
 //!
 //!     guest 52:54:00:12:34:56
 //!     dns 52:54:00:12:34:56 10.0.2.15:40000 to 10.0.2.2:53, start 42, length 29
+//!     echo 52:54:00:12:34:56 10.0.2.15:40001 to 192.0.2.1:7, start 42, length 5
 //!     tcp 52:54:00:12:34:56 10.0.2.15:40001 to 10.0.2.2:80, length 74
 //!
-//! The first line is for a new record. Start and length of `dns` and `relay` are those of the data in
-//! the frame, the length of `tcp` is the frame's. `rust/tap-namespace` shows it at work.
+//! The first line is for a new record. Start and length of `dns`, `relay` and `echo` are those of the data
+//! in the frame, the length of `tcp` is the frame's. `rust/tap-namespace` shows it at work.
 
 use std::collections::HashMap;
 use std::env;

@@ -27,25 +27,39 @@ pub struct Endpoints {
     pub dst_port: u16,
 }
 
-/// Builds a UDP datagram, its checksum 0, around at most 65,527 bytes of data, and answers its length: 8 bytes and the data.
+/// Builds a UDP datagram around at most 65,527 bytes of data, and answers its length: 8 bytes and the data.
+///
+/// Its checksum is that of RFC 768, over the pseudo-header, in which both addresses stand, the header and the
+/// data. Where it comes to 0, 0xffff is written: a checksum of 0, which says that there is none, is never
+/// sent. The addresses are no part of the datagram. They have to be those of the IPv4 header around it
+/// ([`Guest::make_ip_frame`](crate::Guest::make_ip_frame)), or else its receiver finds the checksum wrong.
 ///
 /// # Errors
 ///
 /// [`Refusal::TooLong`] with more data; else [`Refusal::NoRoom`] where `out` is shorter than the datagram.
 ///
 /// ```
+/// use yavoledu::make_udp_payload;
+///
+/// let (outside, guest) = ([192, 0, 2, 1], [10, 0, 2, 15]);
 /// let mut out = [0; 1480];
-/// let n = yavoledu::make_udp_payload(53, 1024, b"data", &mut out)?;
-/// assert_eq!(&out[..n], b"\x00\x35\x04\x00\x00\x0c\x00\x00data");
+/// let n = make_udp_payload(outside, 53, guest, 1024, b"data", &mut out)?;
+/// assert_eq!(&out[..n], b"\x00\x35\x04\x00\x00\x0c\x54\xcedata");
+///
+/// // The checksum of this one comes to 0.
+/// make_udp_payload([10, 0, 2, 2], 7, guest, 64_233, b"zero", &mut out)?;
+/// assert_eq!(out[6..8], [0xff, 0xff]);
 /// # Ok::<(), yavoledu::Refusal>(())
 /// ```
 pub fn make_udp_payload(
+    src_ip: [u8; 4],
     src_port: u16,
+    dst_ip: [u8; 4],
     dst_port: u16,
     data: &[u8],
     out: &mut [u8],
 ) -> Result<usize, Refusal> {
-    let (number, values) = ffi::make_udp_payload(src_port, dst_port, data, out);
+    let (number, values) = ffi::make_udp_payload(&src_ip, src_port, &dst_ip, dst_port, data, out);
     Refusal::or_length(number, values)
 }
 

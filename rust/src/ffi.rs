@@ -77,7 +77,9 @@ unsafe extern "C" {
     ) -> u32;
 
     fn yavoledu_make_udp_payload(
+        src_ip: *const [u8; 4],
         src_port: u16,
+        dst_ip: *const [u8; 4],
         dst_port: u16,
         data: *const u8,
         data_len: usize,
@@ -191,7 +193,9 @@ pub(crate) fn make_ip_frame(
 }
 
 pub(crate) fn make_udp_payload(
+    src_ip: &[u8; 4],
     src_port: u16,
+    dst_ip: &[u8; 4],
     dst_port: u16,
     data: &[u8],
     out: &mut [u8],
@@ -200,7 +204,9 @@ pub(crate) fn make_udp_payload(
     // SAFETY: each pointer comes from a reference to as much as the header asks.
     let number = unsafe {
         yavoledu_make_udp_payload(
+            src_ip,
             src_port,
+            dst_ip,
             dst_port,
             data.as_ptr(),
             data.len(),
@@ -386,7 +392,9 @@ mod tests {
         // SAFETY: as in `make_udp_payload`.
         let number = unsafe {
             yavoledu_make_udp_payload(
+                &[10, 0, 2, 2],
                 1,
+                &[10, 0, 2, 15],
                 2,
                 [3, 4].as_ptr(),
                 2,
@@ -397,6 +405,39 @@ mod tests {
         };
         assert_eq!(number, 5);
         assert_eq!(values, guarded([10, 0]));
+    }
+
+    #[test]
+    fn of_each_address_four_bytes_are_taken_at_any_place() {
+        for around in [0x00, 0xff] {
+            for before in 0..4 {
+                let place = |address: [u8; 4]| {
+                    let mut memory = [around; 12];
+                    memory[before..before + 4].copy_from_slice(&address);
+                    memory
+                };
+                let (from, to) = (place([10, 0, 2, 2]), place([10, 0, 2, 15]));
+                let mut out = guarded([0x77; 12]);
+                let mut values = [0; 2];
+                // SAFETY: as in `make_udp_payload`; four bytes lie behind each address's first.
+                let number = unsafe {
+                    yavoledu_make_udp_payload(
+                        from.as_ptr().add(before).cast(),
+                        7,
+                        to.as_ptr().add(before).cast(),
+                        64_232,
+                        b"zero".as_ptr(),
+                        4,
+                        out.value.as_mut_ptr(),
+                        out.value.len(),
+                        &mut values,
+                    )
+                };
+                assert_eq!((number, values), (1, [12, 0]));
+                // 17, 12 and 12, 7, 64,232, and the words of the addresses and the data come to 0x1fffd.
+                assert_eq!(out, guarded(*b"\x00\x07\xfa\xe8\x00\x0c\x00\x01zero"));
+            }
+        }
     }
 
     const SIZED: (usize, usize) = (65_515, 128);

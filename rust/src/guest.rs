@@ -188,7 +188,7 @@ impl Guest {
     /// What a frame of this guest gets. A reply is written into `reply`; what is handed on stays in the frame.
     ///
     /// A DHCP reply goes from port 67 to port 68 (RFC 2131), to the MAC that the frame came from and the broadcast address of the
-    /// record's network.
+    /// record's network. It has a UDP checksum, as [`make_udp_payload`](crate::make_udp_payload) writes it.
     ///
     /// The frame may have any length and the buffer any size. A buffer of 65,549 bytes has room for every reply, and so has one
     /// of `frame.len() + 16` bytes, and 342 at least: that is proved.
@@ -199,12 +199,12 @@ impl Guest {
     /// let mut guest = Guest::new([0x52, 0x54, 0x00, 0x12, 0x34, 0x56], &NetworkPlan::DOCUMENT_01)?;
     ///
     /// // A datagram of the guest for 192.0.2.1, port 7.
+    /// let (from, to) = (guest.network.guest, [192, 0, 2, 1]);
     /// let mut datagram = [0; 12];
-    /// make_udp_payload(1024, 7, b"data", &mut datagram)?;
+    /// make_udp_payload(from, 1024, to, 7, b"data", &mut datagram)?;
     /// let mut frame = [0; 46];
-    /// guest.clone().make_ip_frame(
-    ///     [0x52, 0x54, 0x00, 0x00, 0x00, 0x01], guest.network.guest, [192, 0, 2, 1], 17, &datagram, &mut frame,
-    /// )?;
+    /// let gateway_mac = [0x52, 0x54, 0x00, 0x00, 0x00, 0x01];
+    /// guest.clone().make_ip_frame(gateway_mac, from, to, 17, &datagram, &mut frame)?;
     ///
     /// let mut reply = [0; 2048];
     /// match guest.send(&frame, &mut reply) {

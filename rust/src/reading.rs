@@ -141,11 +141,12 @@ pub enum Reading {
 /// ```
 /// use yavoledu::{Guest, NetworkPlan, Reading, make_udp_payload, read};
 ///
+/// let (from, to) = ([192, 0, 2, 1], [10, 0, 2, 15]);
 /// let mut datagram = [0; 12];
-/// make_udp_payload(7, 1024, b"data", &mut datagram)?;
+/// make_udp_payload(from, 7, to, 1024, b"data", &mut datagram)?;
 /// let mut frame = [0; 47];
 /// let n = Guest::new([2, 0, 0, 0, 0, 1], &NetworkPlan::DOCUMENT_01)?
-///     .make_ip_frame([0xff; 6], [192, 0, 2, 1], [10, 0, 2, 15], 17, &datagram, &mut frame)?;
+///     .make_ip_frame([0xff; 6], from, to, 17, &datagram, &mut frame)?;
 ///
 /// match read(&frame[..n]) {
 ///     Some(Reading::Udp { datagram, .. }) => assert_eq!(&frame[datagram.payload_range()], b"data"),

@@ -90,8 +90,11 @@ impl Verdict {
 /// ```
 /// use yavoledu::{Refusal, make_udp_payload};
 ///
-/// assert_eq!(make_udp_payload(1024, 53, b"data", &mut [0; 11]), Err(Refusal::NoRoom(12)));
-/// assert_eq!(make_udp_payload(1024, 53, &[0; 65_528], &mut [0; 11]), Err(Refusal::TooLong(65_528)));
+/// fn answer(data: &[u8], out: &mut [u8]) -> Result<usize, Refusal> {
+///     make_udp_payload([10, 0, 2, 2], 53, [10, 0, 2, 15], 1024, data, out)
+/// }
+/// assert_eq!(answer(b"data", &mut [0; 11]), Err(Refusal::NoRoom(12)));
+/// assert_eq!(answer(&[0; 65_528], &mut [0; 11]), Err(Refusal::TooLong(65_528)));
 /// assert_eq!(Refusal::NoRoom(12).to_string(), "12 bytes are needed, and the buffer has fewer");
 /// ```
 #[derive(Clone, Copy, Debug, PartialEq, Eq, Hash)]

@@ -48,6 +48,11 @@ within() { # SECONDS COMMAND...: whether it succeeds, tried for this time or, wh
     return 1
 }
 
+# A number that Linux counts of UDP, out of /proc/net/snmp.
+udp_counter() { # NAME
+    awk -v name="$1" '/^Udp:/ && !at { for (at = NF; $at != name; at--); next } /^Udp:/ { print $at }'
+}
+
 # --- out of a capture
 
 count() { # FILTER
@@ -73,14 +78,22 @@ handoffs_in_capture() {
     local to_dns="(dst host $gateway and udp dst port 53)" length between
     ends "$to_dns" |
         while read -r length between; do echo "dns $between, start 42, length $((length - 42))"; done
-    ends "udp and not port 67 and not $to_dns" |
+    ends "udp and not (port 67 or port 7) and not $to_dns" |
         while read -r length between; do echo "relay $between, start 42, length $((length - 42))"; done
     ends tcp |
         while read -r length between; do echo "tcp $between, length $length"; done
 }
 
-# The ICMP messages behind type, code and checksum, a line each.
-behind_checksum() { # FILTER
+# What the gateway's host has to echo, in the examples' words.
+echoes_in_capture() {
+    local length between
+    ends 'udp dst port 7' |
+        while read -r length between; do echo "echo $between, start 42, length $((length - 42))"; done
+}
+
+# The payloads of IPv4 packets behind their first four bytes, a line each: ICMP messages behind type, code and
+# checksum, UDP datagrams behind their ports.
+behind_four_bytes() { # FILTER
     captured "$1" -x | sed -E 's/^\t0x[0-9a-f]+: *//; t; s/.*/=/' | tr -d ' \n' | tr '=' '\n' |
         cut -c $((2 * (20 + 4) + 1))-
 }

@@ -32,14 +32,8 @@ pub fn make_udp_payload(
     if out.len() < HEADER + len {
         return Verdict::NoRoom(HEADER + len);
     }
-    let header = udp_header(
-        src_ip,
-        src_port,
-        dst_ip,
-        dst_port,
-        (HEADER + len) as u16,
-        data,
-    );
+    let total = (HEADER + len) as u16;
+    let header = udp_header(src_ip, src_port, dst_ip, dst_port, total, data);
     put(out, 0, &header);
     put(out, HEADER, data);
     Verdict::Reply(HEADER + len)

@@ -41,18 +41,11 @@ pub fn put_dhcp_reply(
     }
     let gateway = net.gateway;
     let broadcast = net.broadcast();
-    let datagram = (udp::HEADER + REPLY_LENGTH) as u16;
     put_reply(net, mac, xid, kind, &mut out[MESSAGE_AT..]);
     let message = &out[MESSAGE_AT..FRAME];
-    let header = udp_header(
-        gateway,
-        REPLY_SOURCE,
-        broadcast,
-        REPLY_TARGET,
-        datagram,
-        message,
-    );
+    let len = (udp::HEADER + REPLY_LENGTH) as u16;
+    let header = udp_header(gateway, REPLY_SOURCE, broadcast, REPLY_TARGET, len, message);
     put(out, DATAGRAM_AT, &header);
-    let total = (ipv4::HEADER as u16) + datagram;
+    let total = (ipv4::HEADER as u16) + len;
     put_headers(dst_mac, id, gateway, broadcast, ipv4::UDP, total, out);
 }

@@ -75,7 +75,8 @@ module _ (from to datagram : List ℕ) where
   unfolding summed
   summed-there h =
       let two = be16 (checksumOf from to (sourcePort datagram) (targetPort datagram) (length datagram) (drop 8 datagram)) in
-      rw (fits 6 two datagram h) (part-put 6 two datagram h)
+      let put-there : summed from to datagram ≡ put 6 two datagram = fits 6 two datagram h in
+      rw put-there (part-put 6 two datagram h)
 
 turned-as-long : (d : List ℕ) → length (turned d) ≡ length d
 unfolding turned

@@ -1,16 +1,19 @@
 //! What the hosts `tap` and `guest` have in common: the network that they are asked for, what they do with
-//! the gateway's verdict on a frame, and the tally.
+//! the gateway's verdict on a frame, the one service that they have themselves, and the tally.
 
 use std::fmt;
 use std::io;
 use std::net::{Ipv4Addr, SocketAddrV4};
 
-use yavoledu::{Guest, NetworkPlan, Verdict};
+use yavoledu::{Guest, NetworkPlan, Refusal, Verdict, make_udp_payload};
 
 /// The gateway's longest reply: with this room it has never too little.
 pub const REPLY_ROOM: usize = 65_549;
 pub const ETHERNET_HEADER: usize = 14;
 const UDP_HEADER: usize = 8;
+const UDP: u8 = 17;
+/// What is relayed to this port, of any address, the host echoes: RFC 862.
+const ECHO_PORT: u16 = 7;
 
 /// A new guest's record on the network of the words GATEWAY GUEST MASK [LEASE]. Without any it is document
 /// 01's.
@@ -62,8 +65,9 @@ pub struct Tally {
 }
 
 impl Tally {
-    /// Hands a frame to the gateway and answers the length of its reply, which the host then has to write
-    /// and to count by `written`. What isn't replied to is counted, and printed unless it is dropped.
+    /// Hands a frame to the gateway and answers the length of the reply, which the host then has to write and
+    /// to count by `written`. It is the gateway's, or an echo. What isn't replied to is counted. All that the
+    /// gateway neither replies to nor drops is printed.
     pub fn take(&mut self, guest: &mut Guest, frame: &[u8], reply: &mut [u8]) -> Option<usize> {
         let mac = Mac(guest.mac);
         match guest.send(frame, reply) {
@@ -71,19 +75,37 @@ impl Tally {
             Verdict::Drop => self.drops += 1,
             Verdict::Dns { start, len } => {
                 self.dns += 1;
-                let ends = ends(frame, start - UDP_HEADER);
-                println!("dns {mac} {ends}, start {start}, length {len}");
+                let [from, to] = udp_ends(frame, start);
+                println!("dns {mac} {from} to {to}, start {start}, length {len}");
             }
             Verdict::Relay { start, len } => {
-                self.relay += 1;
-                let ends = ends(frame, start - UDP_HEADER);
-                println!("relay {mac} {ends}, start {start}, length {len}");
+                let [from, to] = udp_ends(frame, start);
+                if to.port() == ECHO_PORT {
+                    println!("echo {mac} {from} to {to}, start {start}, length {len}");
+                    let data = &frame[start..start + len];
+                    match make_datagram(guest, to, from, data, reply) {
+                        Ok(n) => return Some(n),
+                        Err(refusal) => self.refused(mac, format_args!("no echo: {refusal}")),
+                    }
+                } else {
+                    self.relay += 1;
+                    println!("relay {mac} {from} to {to}, start {start}, length {len}");
+                }
             }
             Verdict::Tcp(n) => {
                 self.tcp += 1;
                 let segment = ETHERNET_HEADER + 4 * usize::from(frame[ETHERNET_HEADER] & 0x0f);
-                let ends = ends(frame, segment);
-                println!("tcp {mac} {ends}, length {n}");
+                // At TCP the gateway looks no further: the frame may end before its ports.
+                match frame.get(segment..segment + 4) {
+                    Some(_) => {
+                        let [from, to] = ends(frame, segment);
+                        println!("tcp {mac} {from} to {to}, length {n}");
+                    }
+                    None => {
+                        let [from, to] = addresses(frame);
+                        println!("tcp {mac} {from} to {to}, no ports, length {n}");
+                    }
+                }
             }
             Verdict::NoRoom(n) => self.refused(mac, format_args!("the reply needs {n} bytes")),
             Verdict::TooLong(n) => self.refused(mac, format_args!("{n} bytes are too long")),
@@ -130,19 +152,39 @@ impl fmt::Display for Tally {
     }
 }
 
-/// From whom to whom an IPv4 frame goes that the gateway has handed on: it has both addresses, but a
-/// TCP frame, at which the gateway looks no further, may end before its ports.
-fn ends(frame: &[u8], ports: usize) -> String {
-    let address = |at: usize| Ipv4Addr::new(frame[at], frame[at + 1], frame[at + 2], frame[at + 3]);
-    let (from, to) = (address(26), address(30));
-    match frame.get(ports..ports + 4) {
-        Some(&[a, b, c, d]) => {
-            let from = SocketAddrV4::new(from, u16::from_be_bytes([a, b]));
-            let to = SocketAddrV4::new(to, u16::from_be_bytes([c, d]));
-            format!("{from} to {to}")
-        }
-        _ => format!("{from} to {to}, no ports"),
-    }
+/// A frame for the guest with this datagram in it, and its length.
+fn make_datagram(
+    guest: &mut Guest,
+    from: SocketAddrV4,
+    to: SocketAddrV4,
+    data: &[u8],
+    frame: &mut [u8],
+) -> Result<usize, Refusal> {
+    let mut datagram = vec![0; UDP_HEADER + data.len()];
+    // The checksum covers the addresses, and the IPv4 header has to have the same.
+    let (src_ip, dst_ip) = (from.ip().octets(), to.ip().octets());
+    make_udp_payload(src_ip, from.port(), dst_ip, to.port(), data, &mut datagram)?;
+    guest.make_ip_frame(guest.mac, src_ip, dst_ip, UDP, &datagram, frame)
+}
+
+/// From whom to whom an IPv4 frame goes that the gateway has handed on.
+fn addresses(frame: &[u8]) -> [Ipv4Addr; 2] {
+    [26, 30].map(|at| Ipv4Addr::new(frame[at], frame[at + 1], frame[at + 2], frame[at + 3]))
+}
+
+/// The same with the ports, the first of which is at this place.
+fn ends(frame: &[u8], ports: usize) -> [SocketAddrV4; 2] {
+    let port = |at: usize| u16::from_be_bytes([frame[at], frame[at + 1]]);
+    let [from, to] = addresses(frame);
+    [
+        SocketAddrV4::new(from, port(ports)),
+        SocketAddrV4::new(to, port(ports + 2)),
+    ]
+}
+
+/// The same of a datagram, whose data starts at this place.
+fn udp_ends(frame: &[u8], data: usize) -> [SocketAddrV4; 2] {
+    ends(frame, data - UDP_HEADER)
 }
 
 #[derive(Clone, Copy)]

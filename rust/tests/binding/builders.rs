@@ -97,23 +97,115 @@ fn an_ipv4_payload_past_65515_bytes_is_too_long() {
     }
 }
 
+fn assert_builds_udp(from: ([u8; 4], u16), to: ([u8; 4], u16), data: &[u8]) {
+    let expected = summed_udp(from, to, data);
+    assert_eq!(sum_of_udp(from.0, to.0, &expected), 0xffff);
+    assert_ne!(expected[6..8], [0, 0]);
+    assert_builds(
+        &|_, out| make_udp_payload(from.0, from.1, to.0, to.1, data, out),
+        1,
+        0,
+        &expected,
+    );
+}
+
 #[test]
 fn a_udp_datagram() {
-    for data in [&b""[..], b"1", b"data", &pattern(65_527)] {
-        assert_builds(
-            &|_, out| make_udp_payload(0x1112, 0x2122, data, out),
-            1,
-            0,
-            &udp(0x1112, 0x2122, data),
-        );
+    let contents = [
+        &b""[..],
+        b"1",
+        b"12",
+        b"odd",
+        b"data",
+        &pattern(65_526),
+        &pattern(65_527),
+    ];
+    for data in contents {
+        assert_builds_udp((FROM, 0x1112), (TO, 0x2122), data);
     }
+}
+
+#[test]
+fn a_udp_datagram_of_every_short_length() {
+    for len in 0..300 {
+        assert_builds_udp((FROM, 0x1112), (TO, 0x2122), &pattern(len));
+    }
+}
+
+#[test]
+fn a_udp_datagram_between_the_lowest_and_the_highest_ends() {
+    for from in [([0; 4], 0), ([255; 4], 65_535)] {
+        for to in [([0; 4], 0), ([255; 4], 65_535)] {
+            for data in [&[][..], &[0; 100], &[255; 101], &[255; 65_527]] {
+                assert_builds_udp(from, to, data);
+            }
+        }
+    }
+}
+
+#[test]
+fn each_byte_of_both_ends_is_in_the_checksum() {
+    // In words: the addresses' four, and the two ports.
+    for place in 0..12 {
+        let mut ends = [0; 12];
+        ends[place] = 0x5a;
+        let [a, b, c, d, e, f, g, h, i, j, k, l] = ends;
+        let (from, to) = ([a, b, c, d], [e, f, g, h]);
+        let ports = (u16::from_be_bytes([i, j]), u16::from_be_bytes([k, l]));
+        let mut out = [0; 8];
+        let built = make_udp_payload(from, ports.0, to, ports.1, &[], &mut out);
+        assert_eq!(built, Ok(8));
+        // Besides, there are 17 and twice the length.
+        let alone = 0xffff - 17 - 2 * 8;
+        let word = if place % 2 == 0 { 0x5a00 } else { 0x5a };
+        assert_eq!(u16::from_be_bytes([out[6], out[7]]), alone - word);
+    }
+}
+
+#[test]
+fn a_udp_checksum_that_comes_to_0_is_sent_as_ffff() {
+    let port = 64_233; // 0xfae9
+    // The words by hand: 0a00 0202, 0a00 020f, 0011, 000c; 0007 fae9 000c; "ze" is 7a65 and "ro" 726f.
+    let words = [
+        0x0a00, 0x0202, 0x0a00, 0x020f, 0x0011, 0x000c, 0x0007, 0xfae9, 0x000c, 0x7a65, 0x726f,
+    ];
+    assert_eq!(words.iter().sum::<u32>(), 0x1_fffe); // which folds to ffff, whose complement is 0
+    let mut out = [0; 12];
+    let built = make_udp_payload(GATEWAY_IP, 7, GUEST_IP, port, b"zero", &mut out);
+    assert_eq!(built, Ok(12));
+    assert_eq!(&out, b"\x00\x07\xfa\xe9\x00\x0c\xff\xffzero");
+    assert_builds_udp((GATEWAY_IP, 7), (GUEST_IP, port), b"zero");
+    // Beside it there is no such thing: with the next ports the checksum comes to 1 and to fffe.
+    for (port, sum) in [(port - 1, [0x00, 0x01]), (port + 1, [0xff, 0xfe])] {
+        let built = make_udp_payload(GATEWAY_IP, 7, GUEST_IP, port, b"zero", &mut out);
+        assert_eq!((built, &out[6..8]), (Ok(12), &sum[..]));
+    }
+}
+
+#[test]
+fn every_checksum_is_written_and_0_is_not_among_them() {
+    // By the port each from 1 to 0xffff comes once, 0xffff in 0's place, and that of the ports 0 and 65,535 twice.
+    let mut seen = vec![0; 65_536];
+    for port in 0..=u16::MAX {
+        let mut out = [0; 8];
+        let built = make_udp_payload(FROM, 7, TO, port, &[], &mut out);
+        assert_eq!(built, Ok(8));
+        assert_eq!(sum_of_udp(FROM, TO, &out), 0xffff);
+        seen[usize::from(u16::from_be_bytes([out[6], out[7]]))] += 1;
+    }
+    assert_eq!(seen[0], 0);
+    assert_eq!(
+        seen[1..].iter().filter(|times| **times == 1).count(),
+        65_534
+    );
+    assert_eq!(seen[1..].iter().filter(|times| **times == 2).count(), 1);
 }
 
 #[test]
 fn udp_data_past_65527_bytes_is_too_long() {
     for len in [65_528, 65_535, 65_536, 131_072] {
         let data = pattern(len);
-        assert_too_long(&|_, out| make_udp_payload(1, 2, &data, out), len);
+        assert_too_long(&|_, out| make_udp_payload(FROM, 1, TO, 2, &data, out), len);
     }
 }
 

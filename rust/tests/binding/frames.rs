@@ -153,6 +153,33 @@ pub fn udp(from: u16, to: u16, data: &[u8]) -> Vec<u8> {
     .concat()
 }
 
+/// A UDP datagram with its checksum. RFC 768: "the 16-bit one's complement of the one's complement sum of a pseudo
+/// header of information from the IP header, the UDP header, and the data"; "If the computed checksum is zero, it
+/// is transmitted as all ones".
+pub fn summed_udp(from: ([u8; 4], u16), to: ([u8; 4], u16), data: &[u8]) -> Vec<u8> {
+    let mut datagram = udp(from.1, to.1, data);
+    let sum = match checksum(&with_pseudo_header(UDP, from.0, to.0, &datagram)) {
+        0 => 0xffff,
+        sum => sum,
+    };
+    datagram[6..8].copy_from_slice(&sum.to_be_bytes());
+    datagram
+}
+
+/// The words of a datagram and its pseudo-header, the checksum among them, added up one by one, and the carries
+/// added to them. Where the checksum is right, this is 0xffff.
+pub fn sum_of_udp(from: [u8; 4], to: [u8; 4], datagram: &[u8]) -> u64 {
+    let pseudo_header = [&from[..], &to, &[0, 17], &datagram[4..6]].concat();
+    let mut sum = 0_u64;
+    for (place, byte) in pseudo_header.iter().chain(datagram).enumerate() {
+        sum += u64::from(*byte) << (8 * ((place + 1) % 2));
+    }
+    while sum > 0xffff {
+        sum = (sum & 0xffff) + (sum >> 16);
+    }
+    sum
+}
+
 /// The pseudo-header of RFC 768 and 9293 before a payload.
 pub fn with_pseudo_header(protocol: u8, from: [u8; 4], to: [u8; 4], payload: &[u8]) -> Vec<u8> {
     let len = (payload.len() as u16).to_be_bytes();
@@ -207,8 +234,8 @@ pub fn from_dhcp_client(message: &[u8]) -> Vec<u8> {
     from_guest(UDP, [255; 4], &udp(68, 67, message))
 }
 
-/// The frame of a DHCP reply to a guest frame from `GUEST_MAC`, row by row as document 01 has it, for this record. It goes
-/// from port 67 to port 68: document 02, 2/13.
+/// The frame of a DHCP reply to a guest frame from `GUEST_MAC`, row by row as document 01 has it, for this
+/// record. It goes from port 67 to port 68, and has a UDP checksum: document 02, 2/13 and 6/13.
 pub fn dhcp_reply(record: &Guest, xid: [u8; 4], message_type: u8) -> Vec<u8> {
     let Network {
         gateway,
@@ -237,7 +264,7 @@ pub fn dhcp_reply(record: &Guest, xid: [u8; 4], message_type: u8) -> Vec<u8> {
     }
     message[273] = 255;
     let target = broadcast(&record.network);
-    let datagram = udp(67, 68, &message);
+    let datagram = summed_udp((gateway, 67), (target, 68), &message);
     let packet = ipv4(record.id, UDP, gateway, target, &[], &datagram);
     ethernet(GUEST_MAC, GATEWAY_MAC, 0x0800, &packet)
 }

@@ -3,7 +3,7 @@
 
 use std::thread;
 
-use yavoledu::{Layer, Reading, Verdict, read};
+use yavoledu::{Layer, Reading, Verdict, make_udp_payload, read};
 
 use crate::frames::*;
 
@@ -91,9 +91,7 @@ fn udp_with_options_in_its_ipv4_header() {
 
 #[test]
 fn udp_with_a_checksum() {
-    let mut datagram = udp(1024, 7, b"data");
-    let sum = checksum(&with_pseudo_header(UDP, GUEST_IP, GATEWAY_IP, &datagram));
-    datagram[6..8].copy_from_slice(&sum.to_be_bytes());
+    let mut datagram = summed_udp((GUEST_IP, 1024), (GATEWAY_IP, 7), b"data");
     let read_so = Reading::Udp {
         ethernet: layer(0, 14, 46),
         ip: layer(14, 34, 46),
@@ -103,6 +101,69 @@ fn udp_with_a_checksum() {
 
     datagram[7] ^= 1;
     assert_eq!(read(&datagram_frame(&[], &datagram)), None);
+}
+
+/// The frame that both builders make for the guest.
+fn built(from: ([u8; 4], u16), to: ([u8; 4], u16), data: &[u8]) -> Vec<u8> {
+    let mut datagram = vec![0; 8 + data.len()];
+    let n = make_udp_payload(from.0, from.1, to.0, to.1, data, &mut datagram);
+    assert_eq!(n, Ok(datagram.len()));
+    let mut frame = vec![0; 34 + datagram.len()];
+    let n = new_guest(GUEST_MAC).make_ip_frame(GUEST_MAC, from.0, to.0, UDP, &datagram, &mut frame);
+    assert_eq!(n, Ok(frame.len()));
+    frame
+}
+
+#[test]
+fn udp_of_the_builders() {
+    let ends = [
+        ((OUTSIDE_IP, 7), (GUEST_IP, 40_000)),
+        ((GATEWAY_IP, 7), (GUEST_IP, 64_233)), // "zero" has ffff
+        (([255; 4], 65_535), ([255; 4], 65_535)),
+        (([0; 4], 0), ([0; 4], 0)),
+    ];
+    for (from, to) in ends {
+        for data in [
+            &b""[..],
+            b"1",
+            b"odd",
+            b"zero",
+            &pattern(1_472),
+            &pattern(65_507),
+        ] {
+            let frame = built(from, to, data);
+            let read_so = Reading::Udp {
+                ethernet: layer(0, 14, 42 + data.len()),
+                ip: layer(14, 34, 42 + data.len()),
+                datagram: layer(34, 42, 42 + data.len()),
+            };
+            assert_read(&frame, read_so);
+
+            // With each other checksum it is refused, but with 0, which says that there is none.
+            for bit in 0..16 {
+                let mut wrong = frame.clone();
+                wrong[40 + bit / 8] ^= 0x80 >> (bit % 8);
+                assert_eq!(read(&wrong).is_some(), wrong[40..42] == [0, 0], "{bit}");
+            }
+        }
+    }
+}
+
+#[test]
+fn udp_of_the_builders_for_other_addresses() {
+    // The datagram's checksum is for one pair of addresses, and the IPv4 header has another.
+    let mut datagram = [0; 12];
+    let n = make_udp_payload(OUTSIDE_IP, 7, GUEST_IP, 1024, b"data", &mut datagram);
+    assert_eq!(n, Ok(12));
+    for (from, to, is_read) in [
+        (OUTSIDE_IP, GUEST_IP, true),
+        (GUEST_IP, OUTSIDE_IP, true), // a sum takes its words in any order
+        (OUTSIDE_IP, GATEWAY_IP, false),
+        (GATEWAY_IP, GUEST_IP, false),
+    ] {
+        let frame = frame(&ipv4(1, UDP, from, to, &[], &datagram));
+        assert_eq!(read(&frame).is_some(), is_read, "{from:?} to {to:?}");
+    }
 }
 
 #[test]

@@ -132,8 +132,8 @@ fn d0_d1_an_offer() {
     let mut guest = new_guest(GUEST_MAC);
     let reply = reply_to(&mut guest, &from_dhcp_client(&dhcp_message(&DISCOVER)));
     assert_eq!(reply[24..26], [0x20, 0xa4]);
-    // D0 as document 02, 2/13, amends it
-    assert_eq!(reply[34..42], bytes("0043004401340000"));
+    // D0 as document 02 amends it: 2/13 its ports, 6/13 its last two bytes, which are the checksum of this reply
+    assert_eq!(reply[34..40], bytes("004300440134"));
     assert_eq!(reply, dhcp_reply(&new_guest(GUEST_MAC), XID, 2));
     assert_eq!(
         guest,
@@ -166,6 +166,24 @@ fn d5_an_offer_though_the_option_overruns() {
         reply_to(&mut new_guest(GUEST_MAC), &frame),
         dhcp_reply(&new_guest(GUEST_MAC), XID, 2)
     );
+}
+
+#[test]
+fn a_dhcp_reply_has_the_checksum_of_its_own_datagram() {
+    // By the xid's low half each checksum comes, so that one comes to 0, and is sent as ffff.
+    let mut all_ones = 0;
+    for low in 0..=u16::MAX {
+        let mut message = dhcp_message(&DISCOVER);
+        message[6..8].copy_from_slice(&low.to_be_bytes());
+        let mut reply = [0; 342];
+        let verdict = new_guest(GUEST_MAC).send(&from_dhcp_client(&message), &mut reply);
+        assert_eq!(verdict, Verdict::Reply(342));
+        let datagram = &reply[34..];
+        assert_eq!(sum_of_udp(GATEWAY_IP, BROADCAST_IP, datagram), 0xffff);
+        assert_ne!(datagram[6..8], [0, 0]);
+        all_ones += usize::from(datagram[6..8] == [0xff, 0xff]);
+    }
+    assert!((1..=2).contains(&all_ones), "{all_ones}");
 }
 
 /// The ports of a datagram, from and to, in an IPv4 frame without options.

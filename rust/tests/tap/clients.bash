@@ -227,8 +227,7 @@ hears_no_broadcast() { # NAME
 }
 
 unheard_broadcasts() {
-    awk '/^Udp:/ && !at { for (at = NF; $at != "IgnoredMulti"; at--); next }
-        /^Udp:/ { print $at }' /proc/net/snmp
+    udp_counter IgnoredMulti </proc/net/snmp
 }
 
 ends_of_renewal() { # NAME: where its requests have to come from and go to
@@ -301,29 +300,29 @@ check_client() { # PROGRAM NETWORK NAME
     check_replies
 }
 
-# All at once. What each leaves and prints is in a folder of its name.
-start_clients() { # FOLDER PROGRAM NETWORK
+# The clients and the sockets ($parts), all at once. What each leaves and prints is in a folder of its name.
+start_parts() { # FOLDER PROGRAM NETWORK
     local name
-    for name in "${clients[@]}"; do
+    for name in "${parts[@]}"; do
         mkdir -p "$1/$name"
-        "${new_namespaces[@]}" bash "$script" --client "$1/$name" "$2" "$3" "$name" \
+        "${new_namespaces[@]}" bash "$script" --part "$1/$name" "$2" "$3" "$name" \
             >"$1/$name/checks" 2>&1 </dev/null &
         running[$1/$name]=$!
     done
 }
 
-end_clients() { # FOLDER
+end_parts() { # FOLDER
     local name
-    for name in "${clients[@]}"; do
+    for name in "${parts[@]}"; do
         status=0
         wait "${running[$1/$name]}" || status=$?
         [ "$status" = 0 ] || not_run "the checks of $name have broken off: $(tail -n 3 "$1/$name/checks" | on_one_line)"
     done
 }
 
-tell_checks() { # FOLDER: what the clients have printed, in turn
+tell_checks() { # FOLDER: what they have printed, in turn
     local name
-    for name in "${clients[@]}"; do
+    for name in "${parts[@]}"; do
         cat "$1/$name/checks"
         passed=$((passed + $(sed -n '/^ok /p' "$1/$name/checks" | wc -l)))
         failed=$((failed + $(sed -n '/^FAIL /p' "$1/$name/checks" | wc -l)))

@@ -4,7 +4,8 @@
 //!     FAULT=name wrong_tap NAME [GATEWAY GUEST MASK [LEASE]]
 //!
 //! The source of the example stands as it is. It takes `yavoledu` for this file, and so serves the
-//! [`Guest`] below, which asks the proved one and then spoils what comes of it.
+//! [`Guest`] below, which asks the proved one and then spoils what comes of it; so it is with the datagrams of
+//! its echo.
 
 extern crate self as yavoledu;
 extern crate yavoledu as proved;
@@ -15,7 +16,7 @@ mod tap;
 use std::env;
 use std::process::{Command, ExitCode};
 
-pub use proved::{BadRecord, NetworkPlan, Verdict};
+pub use proved::{BadRecord, NetworkPlan, Refusal, Verdict};
 
 // Where things are in a DHCP reply: behind 14 bytes of Ethernet, 20 of IPv4 and 8 of UDP.
 const IP: usize = 14;
@@ -72,6 +73,11 @@ impl Guest {
         self.proved.mac = self.mac;
         let verdict = self.proved.send(frame, reply);
         match verdict {
+            Verdict::Relay { .. } if self.fault == "no echo" => Verdict::Drop,
+            Verdict::Relay { start, len } if self.fault == "echo's length" => Verdict::Relay {
+                start,
+                len: len.saturating_sub(1),
+            },
             Verdict::Reply(n) if self.is_unsent(frame, &reply[..n]) => Verdict::Drop,
             Verdict::Reply(n) => {
                 self.spoil(frame, &mut reply[..n]);
@@ -79,6 +85,26 @@ impl Guest {
             }
             _ => verdict,
         }
+    }
+
+    /// The frame of an echo.
+    pub fn make_ip_frame(
+        &mut self,
+        dst_mac: [u8; 6],
+        src_ip: [u8; 4],
+        dst_ip: [u8; 4],
+        proto: u8,
+        payload: &[u8],
+        out: &mut [u8],
+    ) -> Result<usize, Refusal> {
+        let proved = &mut self.proved;
+        let n = proved.make_ip_frame(dst_mac, src_ip, dst_ip, proto, payload, out)?;
+        match self.fault.as_str() {
+            "id" => proved.id = proved.id.wrapping_sub(1),
+            "header sum" => out[IP + 10] ^= 1,
+            _ => {}
+        }
+        Ok(n)
     }
 
     /// Whether the fault is that this reply is not sent.
@@ -132,7 +158,59 @@ impl Guest {
             "a renewal's router" if is_renewal(frame) => reply[ROUTER + 3] ^= 1,
             _ => {}
         }
+        // What was spoiled has a right checksum again, or the client would not look at it.
+        let address = |at| <[u8; 4]>::try_from(&reply[at..at + 4]).expect("four bytes");
+        let (from, to) = (address(IP + 12), address(IP + 16));
+        let fault = match self.fault.as_str() {
+            "a renewal's UDP sum" if is_renewal(frame) => "UDP sum",
+            fault => fault,
+        };
+        set_udp_sum(fault, from, to, &mut reply[UDP..]);
     }
+}
+
+/// The datagram of an echo.
+pub fn make_udp_payload(
+    src_ip: [u8; 4],
+    src_port: u16,
+    dst_ip: [u8; 4],
+    dst_port: u16,
+    data: &[u8],
+    out: &mut [u8],
+) -> Result<usize, Refusal> {
+    let n = proved::make_udp_payload(src_ip, src_port, dst_ip, dst_port, data, out)?;
+    let fault = fault();
+    match fault.as_str() {
+        "echo's port" => out[1] ^= 1,
+        "echo's data" => out[8..n].reverse(),
+        _ => {}
+    }
+    set_udp_sum(&fault, src_ip, dst_ip, &mut out[..n]);
+    Ok(n)
+}
+
+/// The checksum of a datagram, with this fault: RFC 768's, where it is none of these.
+fn set_udp_sum(fault: &str, from: [u8; 4], to: [u8; 4], datagram: &mut [u8]) {
+    datagram[6..8].fill(0);
+    let length = (datagram.len() as u16).to_be_bytes();
+    let (mut target, mut pseudo_header) = (to, Vec::new());
+    if fault == "UDP sum for another address" {
+        target[3] ^= 1;
+    }
+    if fault != "UDP sum without the pseudo-header" {
+        pseudo_header = [&from[..], &target, &[0, 17], &length].concat();
+    }
+    let sum = match proved::checksum(&[&pseudo_header, &*datagram].concat()) {
+        0 if fault != "UDP sum that comes to 0" => 0xffff,
+        sum => sum,
+    };
+    let sum = match fault {
+        "UDP sum 0" => 0,
+        "UDP sum" if sum == 1 => 3, // 0 would say that there is none
+        "UDP sum" => sum ^ 1,
+        _ => sum,
+    };
+    datagram[6..8].copy_from_slice(&sum.to_be_bytes());
 }
 
 fn is_arp(reply: &[u8]) -> bool {

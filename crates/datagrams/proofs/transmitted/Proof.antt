@@ -1,14 +1,16 @@
 -- `transmitted` meets its contract: by whether the computed checksum is 0.
 use Prim.Native.Nat.{ℕ, zero, suc}
-use mathlib.Core.Path.{_≡_, refl, ap, sym, _∙_}
-use native.Mathlib.Omega.{arith}
+use mathlib.Core.Path.{_≡_, refl}
 use Rattle.wire.specs.Rfc768.{transmitted}
 use Rattle.datagrams.proofs.transmitted.Statement.{statement}
 use Rattle.datagrams.proofs.transmitted.Tie as tie
 
-returns : tie.Need-returns
+all-ones : (n : ℕ) → n ≡ 0 → 65535 ≡ transmitted n
 unfolding transmitted
-returns c = rw (c .if1 .taken)
+all-ones n e = rw e
+
+returns : tie.Need-returns
+returns c = all-ones (c .before .args .computed) (c .if1 .taken)
 
 other : (n : ℕ) → (n ≡ 0 → ⊥) → n ≡ transmitted n
 unfolding transmitted

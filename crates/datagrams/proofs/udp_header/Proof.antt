@@ -25,9 +25,10 @@ returns c =
     (sums .sum3 .ensures
     ∙ ap (λ (n : ℕ). fold (n + total (a .data .now))) (sums .before .sum2 .ensures ∙ ap (λ (n : ℕ). fold (n + total (blank .result))) (sums .before .before .before .sum .ensures)))
     ∙ checksum-three (pseudo .result) (blank .result) (a .data .now) 6 4 (omega arith) (omega arith) in
+    let sent : c .before .transmitted .result ≡ transmitted (65535 - sums .sum3 .result) = c .before .transmitted .ensures in
     c .header-with2 .ensures
     ∙ ap (λ (n : ℕ). headerWith n (a .src-port) (a .dst-port) (a .len))
-    (c .before .transmitted .ensures ∙ ap transmitted (pieces ∙ ap₂ (λ (s t : List ℕ). checksum (s ++ (t ++ a .data .now))) p h))
+    (sent ∙ ap transmitted (pieces ∙ ap₂ (λ (s t : List ℕ). checksum (s ++ (t ++ a .data .now))) p h))
 
 pub udp-header-spec : {M : Type 1} → statement M
 udp-header-spec =
