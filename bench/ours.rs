@@ -92,7 +92,9 @@ unsafe extern "C" {
     ) -> u32;
 
     pub fn yavoledu_make_udp_payload(
+        src_ip: *const [u8; 4],
         src_port: u16,
+        dst_ip: *const [u8; 4],
         dst_port: u16,
         data: *const u8,
         data_len: usize,

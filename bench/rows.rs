@@ -5,7 +5,7 @@ use std::hint::black_box;
 use published::handed::{self, To};
 use published::{NetworkBackend, SlirpBackend};
 
-use crate::amended::pushed;
+use crate::amended::{amended_datagram, pushed};
 use crate::draws::{GUEST_IP, GUEST_MAC};
 use crate::guest_frames::{ELSEWHERE, dns_query};
 use crate::inputs;
@@ -85,6 +85,10 @@ pub fn all() -> Vec<Row> {
             Queue::LookedInto,
         ),
         segment("`make_tcp_frame`, 1,460 bytes", 1_460),
+        datagram(
+            "`make_udp_payload`, 1,472 bytes; the Rust sums nothing",
+            1_472,
+        ),
         checksum("`checksum`, 64 bytes", 64),
         checksum("`checksum`, 1,480 bytes", 1_480),
         checksum("`checksum`, 65,515 bytes", 65_515),
@@ -160,8 +164,8 @@ fn send(guest: &mut Guest, frame: &[u8], reply: &mut [u8], values: &mut [usize; 
     unsafe { ours::yavoledu_send(guest, frame.as_ptr(), frame.len(), at, room, values) }
 }
 
-/// From the same record both do what this verdict says, with the same bytes but for the ports of a DHCP reply
-/// (oracle/amended.rs), and the same numbers and record.
+/// From the same record both do what this verdict says, with the same bytes but for the ports and the checksum
+/// of a DHCP reply (oracle/amended.rs), and the same numbers and record.
 fn assert_same_deed(name: &str, frame: &[u8], verdict: u32) {
     let ids = IdCounter::new();
     let mut backend = SlirpBackend::new(GUEST_MAC);
@@ -247,6 +251,42 @@ fn segment(name: &'static str, len: usize) -> Row {
         goal: Some(RULED_BY_THE_SUM),
         ours: calls(move || {
             black_box(our_frame(&mut id, &mut out, &mut values));
+        }),
+    }
+}
+
+/// The Rust leaves the checksum 0 and reads the data once, to copy it; ours reads it a second time, to sum it.
+fn datagram(name: &'static str, len: usize) -> Row {
+    let data: &'static [u8] = inputs::filling(len).leak();
+    let rust_datagram = move || SlirpBackend::make_udp_payload(SOURCE.1, TARGET.1, black_box(data));
+    let our_datagram = move |out: &mut [u8], values: &mut [usize; 2]| {
+        let (data, at, room) = (black_box(data), out.as_mut_ptr(), out.len());
+        unsafe {
+            ours::yavoledu_make_udp_payload(
+                &SOURCE.0,
+                SOURCE.1,
+                &TARGET.0,
+                TARGET.1,
+                data.as_ptr(),
+                data.len(),
+                at,
+                room,
+                values,
+            )
+        }
+    };
+    let (mut out, mut values) = (vec![0xa5; ROOM], [0; 2]);
+    let expected = amended_datagram(SOURCE.0, TARGET.0, rust_datagram());
+    assert_eq!(our_datagram(&mut out, &mut values), ours::REPLY, "{name}");
+    assert!(out[..values[0]] == expected, "{name}");
+    Row {
+        name,
+        beside: Some(calls(move || {
+            black_box(&rust_datagram());
+        })),
+        goal: Some(RULED_BY_THE_SUM),
+        ours: calls(move || {
+            black_box(our_datagram(&mut out, &mut values));
         }),
     }
 }

@@ -128,6 +128,7 @@ fn udp_payloads() -> Vec<Input> {
     vec![
         udp_payload("no data", 0, ours::REPLY),
         udp_payload("1,472 bytes", 1_472, ours::REPLY),
+        udp_payload("65,527 bytes", 65_527, ours::REPLY),
         udp_payload("65,528 bytes", 65_528, ours::TOO_LONG),
     ]
 }
@@ -281,10 +282,21 @@ fn ip_frame(name: &'static str, len: usize, answer: u32) -> Input {
 fn udp_payload(name: &'static str, len: usize, answer: u32) -> Input {
     let (data, out) = (inputs::filling(len), vec![0u8; ROOM].leak().as_mut_ptr());
     let call = Box::new(move || {
-        let (at, len, mut values) = (data.as_ptr(), data.len(), [0; 2]);
+        let mut values = [0; 2];
         let here = stack_pointer();
-        let number =
-            unsafe { ours::yavoledu_make_udp_payload(67, 68, at, len, out, ROOM, &mut values) };
+        let number = unsafe {
+            ours::yavoledu_make_udp_payload(
+                &GATEWAY_IP,
+                67,
+                &BROADCAST_IP,
+                68,
+                data.as_ptr(),
+                data.len(),
+                out,
+                ROOM,
+                &mut values,
+            )
+        };
         (here, number)
     });
     Input { name, call, answer }

@@ -293,9 +293,12 @@ pub fn make(
                 )
             })
         }
-        Call::Udp { src_port, dst_port } => {
+        Call::Udp { src, dst } => {
+            let source = lender.to_read(Slot::Source, &src.0);
+            let target = lender.to_read(Slot::Target, &dst.0);
             now("yavoledu_make_udp_payload", payload, room, || unsafe {
-                (library.make_udp_payload)(*src_port, *dst_port, bytes, len, out, room, values)
+                let make = library.make_udp_payload;
+                make(source, src.1, target, dst.1, bytes, len, out, room, values)
             })
         }
         Call::Tcp {

@@ -43,6 +43,9 @@ enum {
     BUILDER_READS_BEFORE_THE_TARGET,
     BUILDER_SPENDS_THE_ID_ON_TOO_LONG,
     BUILDER_WRITES_PAST_THE_DATAGRAM,
+    BUILDER_READS_BEFORE_THE_DATAGRAMS_SOURCE,
+    BUILDER_READS_PAST_THE_DATAGRAMS_TARGET,
+    BUILDER_READS_PAST_THE_DATA,
     CHECKSUM_READS_A_WHOLE_LAST_WORD,
     READER_READS_PAST_THE_FRAME,
     READER_WRITES_PARTS_OUTSIDE,
@@ -98,6 +101,9 @@ struct {
     {"builder_reads_before_the_target", "guards memory"},
     {"builder_spends_the_id_on_too_long", "guards memory"},
     {"builder_writes_past_the_datagram", "guards memory"},
+    {"builder_reads_before_the_datagrams_source", "guards memory"},
+    {"builder_reads_past_the_datagrams_target", "guards memory"},
+    {"builder_reads_past_the_data", "guards memory"},
     {"checksum_reads_a_whole_last_word", "guards memory"},
     {"reader_reads_past_the_frame", "guards memory"},
     {"reader_writes_parts_outside", "guards memory"},
@@ -233,9 +239,14 @@ uint32_t faulty_yavoledu_make_ip_frame(uint16_t *id, const uint8_t dst_mac[6], c
     return yavoledu_make_ip_frame(id, dst_mac, src_ip, dst_ip, proto, payload, payload_len, out, out_len, values);
 }
 
-uint32_t faulty_yavoledu_make_udp_payload(uint16_t src_port, uint16_t dst_port, const uint8_t *data, size_t data_len, uint8_t *out,
-                                          size_t out_len, size_t values[2]) {
-    uint32_t number = yavoledu_make_udp_payload(src_port, dst_port, data, data_len, out, out_len, values);
+uint32_t faulty_yavoledu_make_udp_payload(const uint8_t src_ip[4], uint16_t src_port, const uint8_t dst_ip[4], uint16_t dst_port,
+                                          const uint8_t *data, size_t data_len, uint8_t *out, size_t out_len, size_t values[2]) {
+    switch (hard_fault) {
+    case BUILDER_READS_BEFORE_THE_DATAGRAMS_SOURCE: touch(src_ip - 1); break;
+    case BUILDER_READS_PAST_THE_DATAGRAMS_TARGET: touch(dst_ip + 4); break;
+    case BUILDER_READS_PAST_THE_DATA: if (data_len % 2) touch(data + data_len); break;
+    }
+    uint32_t number = yavoledu_make_udp_payload(src_ip, src_port, dst_ip, dst_port, data, data_len, out, out_len, values);
     if (hard_fault == BUILDER_WRITES_PAST_THE_DATAGRAM && number == YAVOLEDU_REPLY && values[0] < out_len) {
         spoil(out + values[0]);
     }

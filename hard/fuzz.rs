@@ -1,6 +1,7 @@
 //! The fuzzer's target: the calls that its bytes stand for, judged by the published Rust, by document 01 read a second
 //! time and, what the strict reader says, by document 01's grammar. hard/fuzz says how it is run. The Rust's frames are
-//! read by oracle/amended.rs, so that a DHCP reply has document 02's ports; nothing else is excepted.
+//! read by oracle/amended.rs, so that a DHCP reply has document 02's ports and a datagram RFC 768's checksum; nothing else
+//! is excepted.
 //!
 //! The library is there twice: as it ships, and with counters in it, which guide the fuzzer. Both are judged.
 

@@ -2,7 +2,7 @@
 
 use crate::calls::Plan;
 use crate::captured::captured;
-use crate::cases::{Call, MOST_ROOM};
+use crate::cases::{Call, MOST_ROOM, aimed};
 use crate::compare_builders::Builder;
 use crate::dhcp_vectors::option_bytes;
 use crate::document_01::Record;
@@ -19,10 +19,19 @@ const MOST_CALLS: usize = 8;
 /// A frame or payload is no longer than this, what is summed no longer than that.
 const LONGEST: usize = 70_000;
 const LONGEST_SUMMED: usize = 300_000;
+/// The most that a datagram holds.
+const LONGEST_DATA: usize = 65_527;
 /// The longest frame of a DHCP message in the grammar; the most that a segment with options, one without, a packet and a
 /// datagram hold; the longest length field, the longest frame built, and the longest data that the Rust's sum is certain of.
 const LIMITS: [usize; 8] = [
-    1_514, 65_487, 65_495, 65_515, 65_527, 65_535, 65_549, 131_074,
+    1_514,
+    65_487,
+    65_495,
+    65_515,
+    LONGEST_DATA,
+    65_535,
+    65_549,
+    131_074,
 ];
 
 /// What the guest's record starts with but for its id: MAC, xid, a byte that is odd where its network is not the Rust's, and
@@ -110,6 +119,14 @@ impl Item {
         if self.how & LENGTHS_MADE_RIGHT != 0 && builder.is_none() {
             bytes = with_lengths(bytes);
         }
+        if let (Some(Builder::Made(Call::Udp { src, dst })), Some(fields)) =
+            (&builder, &self.fields)
+            && fields[1] % 2 == 1
+            && (2..=LONGEST_DATA).contains(&bytes.len())
+        {
+            // A checksum that is computed as 0, which chance would take long to.
+            bytes = aimed(*src, *dst, bytes, 0);
+        }
         let room = match self.how & ROOM_BITS {
             0 => USUAL_ROOM,
             1 => 0,
@@ -190,7 +207,10 @@ fn builder(fields: &[u8; FIELDS]) -> Builder {
             dst_ip,
             proto: proto_or_flags,
         }),
-        1 => Builder::Made(Call::Udp { src_port, dst_port }),
+        1 => Builder::Made(Call::Udp {
+            src: (src_ip, src_port),
+            dst: (dst_ip, dst_port),
+        }),
         2 => Builder::Made(Call::Tcp {
             dst_mac,
             src: (src_ip, src_port),

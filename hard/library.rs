@@ -82,8 +82,17 @@ pub struct Library {
         usize,
         *mut Values,
     ) -> u32,
-    pub make_udp_payload:
-        unsafe extern "C" fn(u16, u16, *const u8, usize, *mut u8, usize, *mut Values) -> u32,
+    pub make_udp_payload: unsafe extern "C" fn(
+        *const u8,
+        u16,
+        *const u8,
+        u16,
+        *const u8,
+        usize,
+        *mut u8,
+        usize,
+        *mut Values,
+    ) -> u32,
     pub make_tcp_frame: unsafe extern "C" fn(
         *mut u16,
         *const u8,
@@ -143,7 +152,9 @@ macro_rules! library {
             ) -> u32;
             #[link_name = concat!($prefix, "yavoledu_make_udp_payload")]
             fn make_udp_payload(
+                src_ip: *const u8,
                 src_port: u16,
+                dst_ip: *const u8,
                 dst_port: u16,
                 data: *const u8,
                 data_len: usize,

@@ -69,8 +69,12 @@ impl Service<'_> {
                     7 => ((library.read)(at, len, &mut parts), false),
                     15 => (u32::from((library.checksum)(at, len)), false),
                     23 => {
-                        let make = library.make_udp_payload;
-                        (make(53, 68, at, len, out, room, &mut values), true)
+                        let (network, make) = (&guest.network, library.make_udp_payload);
+                        let (from, to) = (network.gateway.as_ptr(), network.guest.as_ptr());
+                        (
+                            make(from, 53, to, 68, at, len, out, room, &mut values),
+                            true,
+                        )
                     }
                     31 => {
                         let (mac, make) = (guest.mac.as_ptr(), library.make_ip_frame);

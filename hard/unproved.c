@@ -16,7 +16,7 @@ typedef struct {
 uint32_t make_guest_within(yavoledu_guest *, const void *, const void *, const void *, const void *, uint32_t, uint32_t) WITHIN("maker::yavoledu_make_guest");
 uint32_t send_within(yavoledu_guest *, Slice *, Slice *, size_t *) WITHIN("entry::yavoledu_send");
 uint32_t ip_frame_within(uint16_t *, const void *, const void *, const void *, uint8_t, Slice *, Slice *, size_t *) WITHIN("builders::yavoledu_make_ip_frame");
-uint32_t udp_payload_within(uint16_t, uint16_t, Slice *, Slice *, size_t *) WITHIN("builders::yavoledu_make_udp_payload");
+uint32_t udp_payload_within(const void *, uint16_t, const void *, uint16_t, Slice *, Slice *, size_t *) WITHIN("builders::yavoledu_make_udp_payload");
 uint32_t tcp_frame_within(uint16_t *, const void *, const void *, uint16_t, const void *, uint16_t, uint32_t, uint32_t, uint8_t, Slice *, Slice *, size_t *) WITHIN("builders::yavoledu_make_tcp_frame");
 uint16_t checksum_within(Slice *) WITHIN("builders::yavoledu_checksum");
 uint32_t read_within(Slice *, size_t *) WITHIN("reading::yavoledu_read");
@@ -37,10 +37,10 @@ uint32_t guiding_yavoledu_make_ip_frame(uint16_t *id, const uint8_t dst_mac[6], 
     return ip_frame_within(id, dst_mac, src_ip, dst_ip, proto, &in, &out, values);
 }
 
-uint32_t guiding_yavoledu_make_udp_payload(uint16_t src_port, uint16_t dst_port, const uint8_t *data, size_t data_len, uint8_t *reply,
-                                           size_t reply_len, size_t values[2]) {
+uint32_t guiding_yavoledu_make_udp_payload(const uint8_t src_ip[4], uint16_t src_port, const uint8_t dst_ip[4], uint16_t dst_port,
+                                           const uint8_t *data, size_t data_len, uint8_t *reply, size_t reply_len, size_t values[2]) {
     Slice in = {data, data_len}, out = {reply, reply_len};
-    return udp_payload_within(src_port, dst_port, &in, &out, values);
+    return udp_payload_within(src_ip, src_port, dst_ip, dst_port, &in, &out, values);
 }
 
 uint32_t guiding_yavoledu_make_tcp_frame(uint16_t *id, const uint8_t dst_mac[6], const uint8_t src_ip[4], uint16_t src_port, const uint8_t dst_ip[4],

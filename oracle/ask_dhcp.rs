@@ -142,7 +142,7 @@ fn check_frame(frame: &[u8], reply: &[u8]) {
     assert_eq!(frame[20..24], [0x40, 0x00, 64, 17]);
     assert_eq!(SlirpBackend::checksum(&frame[14..34]), 0);
     assert_eq!(frame[26..34], [GATEWAY_IP, BROADCAST_IP].concat());
-    // The ports are the Rust's own: what has to stand there with us, `amended.rs` says.
+    // Ports and checksum are the Rust's own: what has to stand there with us, `amended.rs` says.
     assert_eq!(frame[34..42], [0x00, 0x44, 0x00, 0x43, 0x01, 0x34, 0, 0]);
     assert_eq!(frame[42..], *reply);
 }

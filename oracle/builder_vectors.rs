@@ -1,8 +1,9 @@
 //! Which calls of the builders are listed.
 
-use crate::cases::{Call, List, Payload, Room, SYN};
-use crate::draws::{BROADCAST_IP, BUILDERS_SEED, GATEWAY_IP, GUEST_IP, GUEST_MAC};
-use Room::{Empty, Full, Larger, Most, OneShort, Shorter};
+use crate::cases::{Call, End, List, Payload, Room, SYN, aimed, word_that_turns};
+use crate::draws::{ADDRESSES_SEED, BROADCAST_IP, BUILDERS_SEED, GATEWAY_IP, GUEST_IP, GUEST_MAC};
+use crate::lines::{ALL_ONES, bytes_of, ruled_bytes};
+use Room::{Empty, Full, Larger, Most, OneMore, OneShort, Shorter};
 
 /// Small ones both odd and even, around a byte's reach, around what one Ethernet frame carries, and
 /// around a page.
@@ -25,13 +26,14 @@ pub fn list() -> String {
     list.comment("Calls of the builders of vpod's slirp, answered by its published Rust.");
     list.comment("Printed by oracle/vectors; oracle/README.md says what a line holds.");
     list.comment(&format!(
-        "Drawn by xorshift64 from seed {BUILDERS_SEED:#018x}."
+        "Drawn by xorshift64 from seed {BUILDERS_SEED:#018x}, a datagram's addresses from {ADDRESSES_SEED:#018x}."
     ));
 
     checksums(&mut list);
     ip_frames(&mut list);
     udp_payloads(&mut list);
     tcp_frames(&mut list);
+    udp_checksums(&mut list);
     list.finish()
 }
 
@@ -76,11 +78,13 @@ fn drawn_ip(list: &mut List) -> Call {
     }
 }
 
+fn drawn_ends(list: &mut List) -> [End; 2] {
+    [(); 2].map(|()| (list.addresses.ip(), list.draws.port()))
+}
+
 fn drawn_udp(list: &mut List) -> Call {
-    Call::Udp {
-        src_port: list.draws.port(),
-        dst_port: list.draws.port(),
-    }
+    let [src, dst] = drawn_ends(list);
+    Call::Udp { src, dst }
 }
 
 fn drawn_tcp(list: &mut List, flags: u8) -> Call {
@@ -221,11 +225,6 @@ fn ip_frames(list: &mut List) {
     list.case(&dhcp, &reply, &[Full, OneShort]);
 }
 
-/// What a 16-bit word that was 0 has to become to turn a checksum into another one.
-fn word_that_turns(checksum: u16, wanted: u16) -> u16 {
-    ((checksum as u32 + 65_535 - wanted as u32) % 65_535) as u16
-}
-
 fn ip_with_checksum(list: &mut List, wanted: u16) {
     let (dst_mac, dst_ip, proto) = (list.draws.mac(), list.draws.ip(), list.draws.proto());
     let [high, low, ..] = list.draws.ip();
@@ -255,11 +254,134 @@ fn udp_payloads(list: &mut List) {
     list.comment("05: drawn data");
     drawn_payloads(list, drawn_udp);
     list.comment("05: data all zeros, all ff");
-    let ports = Call::Udp {
-        src_port: 0,
-        dst_port: 65_535,
+    let (zeros, ones) = (([0; 4], 0), ([0xff; 4], 65_535));
+    let ends = [(zeros, ones), (ones, zeros)];
+    uniform_payloads(list, &ends.map(|(src, dst)| Call::Udp { src, dst }));
+}
+
+/// Datagrams whose checksum others made: a kernel and scapy. `replay` replays them; here they are held
+/// against the judge of ours.
+const OF_OTHERS: [&str; 2] = [
+    include_str!("udp_captured.txt"),
+    include_str!("udp_scapy.txt"),
+];
+
+fn check_datagrams_of_others(list: &mut List) {
+    let lines = OF_OTHERS.iter().flat_map(|file| file.lines());
+    let cases: Vec<_> = lines
+        .filter(|line| line.starts_with("05 "))
+        .map(bytes_of)
+        .collect();
+    assert!(!cases.is_empty());
+    for case in cases {
+        let number = |at: usize| u16::from_be_bytes([case[at], case[at + 1]]);
+        let address = |at: usize| [case[at], case[at + 1], case[at + 2], case[at + 3]];
+        let (src, dst) = ((address(1), number(5)), (address(7), number(11)));
+        let (seed, head, data) = (case[22], &case[28..36], &case[36..]);
+        let len = u32::from_be_bytes(address(23)) as usize;
+        let data = match seed {
+            0 => data.to_vec(),
+            seed => ruled_bytes(seed, len),
+        };
+        assert_eq!(data.len(), len);
+        assert!(list.build(&Call::Udp { src, dst }, &data)[..8] == *head);
+    }
+}
+
+/// Source port 7, and for this data the target port with which the checksum is computed as 0.
+const COMPUTED_AS_0: (Call, &[u8]) = (
+    Call::Udp {
+        src: (GATEWAY_IP, 7),
+        dst: (GUEST_IP, 64_233),
+    },
+    b"zero",
+);
+
+fn udp_checksums(list: &mut List) {
+    check_datagrams_of_others(list);
+    list.comment("05: a checksum that is computed as 0 and sent as 0xffff");
+    let (call, data) = COMPUTED_AS_0;
+    let payload = Payload::WrittenOut(data.to_vec());
+    let built = list.case(&call, &payload, &[Full, OneMore, OneShort]);
+    assert_eq!(built.unwrap()[6..8], [0xff; 2]);
+
+    list.comment(
+        "05: checksums aimed at, by the data's first word and, with no data or one byte, by a port",
+    );
+    for wanted in CHECKSUMS_AIMED_AT {
+        for len in [2, 5, 40] {
+            let [src, dst] = drawn_ends(list);
+            let data = aimed(src, dst, list.draws.bytes(len), wanted);
+            list.case(&Call::Udp { src, dst }, &Payload::WrittenOut(data), &[Full]);
+        }
+        for len in [0, 1] {
+            udp_with_checksum(list, len, wanted);
+        }
+    }
+
+    list.comment("05: all ones, up to the longest data");
+    for len in [1_471, 1_472, 65_526, 65_527] {
+        let (src, dst) = (([0xff; 4], 65_535), ([0xff; 4], 65_535));
+        let payload = Payload::ByRule {
+            seed: ALL_ONES,
+            len,
+        };
+        list.case(&Call::Udp { src, dst }, &payload, &[Full]);
+    }
+
+    list.comment("05 and 03: a datagram, and the IPv4 frame around it between the same addresses");
+    around_a_datagram(list, &call, data);
+    for len in [0, 1, 2, 3, 8, 9, 63, 64] {
+        let call = drawn_udp(list);
+        let data = list.draws.bytes(len);
+        around_a_datagram(list, &call, &data);
+    }
+
+    list.comment("05: one byte of an address or a port, all others 0");
+    for place in 0..12 {
+        for byte in [1, 0x80, 0xff] {
+            let mut ends = [0; 12];
+            ends[place] = byte;
+            let [a, b, c, d, sp, sq, e, f, g, h, tp, tq] = ends;
+            let src = ([a, b, c, d], u16::from_be_bytes([sp, sq]));
+            let dst = ([e, f, g, h], u16::from_be_bytes([tp, tq]));
+            list.case(
+                &Call::Udp { src, dst },
+                &Payload::WrittenOut(vec![]),
+                &[Full],
+            );
+        }
+    }
+}
+
+fn around_a_datagram(list: &mut List, call: &Call, data: &[u8]) {
+    let Call::Udp { src, dst } = call else {
+        panic!("no datagram");
     };
-    uniform_payloads(list, &[ports]);
+    let payload = Payload::WrittenOut(data.to_vec());
+    let datagram = list.case(call, &payload, &[Full]).unwrap();
+    let around = Call::Ip {
+        dst_mac: GUEST_MAC,
+        src_ip: src.0,
+        dst_ip: dst.0,
+        proto: 17,
+    };
+    list.case(&around, &Payload::WrittenOut(datagram), &[Full]);
+}
+
+/// By the target port.
+fn udp_with_checksum(list: &mut List, len: usize, wanted: u16) {
+    let [src, (address, _)] = drawn_ends(list);
+    let call_to = |port: u16| Call::Udp {
+        src,
+        dst: (address, port),
+    };
+    let data = list.draws.bytes(len);
+    let trial = list.build(&call_to(0), &data);
+    let port = word_that_turns(u16::from_be_bytes([trial[6], trial[7]]), wanted);
+    let built = list.case(&call_to(port), &Payload::WrittenOut(data), &[Full]);
+    let stored = if wanted == 0 { 0xffff } else { wanted };
+    assert_eq!(built.unwrap()[6..8], stored.to_be_bytes());
 }
 
 fn tcp_frames(list: &mut List) {

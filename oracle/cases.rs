@@ -2,7 +2,9 @@
 
 use published::SlirpBackend;
 
-use crate::draws::{BUILDERS_SEED, Draws};
+use crate::amended::amended_datagram;
+use crate::document_01;
+use crate::draws::{ADDRESSES_SEED, BUILDERS_SEED, Draws};
 use crate::lines::{ALL_ONES, Lines, hex, ruled_bytes};
 
 pub const SYN: u8 = 0x02;
@@ -13,6 +15,9 @@ pub const BUILT: u8 = 1;
 pub const NO_ROOM: u8 = 5;
 const TOO_LONG: u8 = 6;
 
+/// An address and a port.
+pub type End = ([u8; 4], u16);
+
 #[derive(Clone, Debug)]
 pub enum Call {
     Ip {
@@ -22,13 +27,13 @@ pub enum Call {
         proto: u8,
     },
     Udp {
-        src_port: u16,
-        dst_port: u16,
+        src: End,
+        dst: End,
     },
     Tcp {
         dst_mac: [u8; 6],
-        src: ([u8; 4], u16),
-        dst: ([u8; 4], u16),
+        src: End,
+        dst: End,
         seq: u32,
         ack: u32,
         flags: u8,
@@ -88,6 +93,7 @@ impl Call {
         !matches!(self, Call::Udp { .. })
     }
 
+    /// What the Rust builds; of a datagram, what `amended.rs` has become of it.
     pub fn ask_the_rust(&self, payload: &[u8]) -> Vec<u8> {
         match self {
             Call::Ip {
@@ -96,8 +102,9 @@ impl Call {
                 dst_ip,
                 proto,
             } => SlirpBackend::make_ip_frame(dst_mac, src_ip, dst_ip, *proto, payload),
-            Call::Udp { src_port, dst_port } => {
-                SlirpBackend::make_udp_payload(*src_port, *dst_port, payload)
+            Call::Udp { src, dst } => {
+                let built = SlirpBackend::make_udp_payload(src.1, dst.1, payload);
+                amended_datagram(src.0, dst.0, built)
             }
             Call::Tcp {
                 dst_mac,
@@ -124,7 +131,13 @@ impl Call {
                 hex(src_ip),
                 hex(dst_ip)
             ),
-            Call::Udp { src_port, dst_port } => format!("05 {src_port:04x} {dst_port:04x}"),
+            Call::Udp { src, dst } => format!(
+                "05 {} {:04x} {} {:04x}",
+                hex(&src.0),
+                src.1,
+                hex(&dst.0),
+                dst.1
+            ),
             Call::Tcp {
                 dst_mac,
                 src,
@@ -142,6 +155,26 @@ impl Call {
             ),
         }
     }
+}
+
+/// What a 16-bit word that was 0 has to become to turn a checksum into another one.
+pub fn word_that_turns(checksum: u16, wanted: u16) -> u16 {
+    ((checksum as u32 + 65_535 - wanted as u32) % 65_535) as u16
+}
+
+/// The data with its first word turned so that the checksum of the datagram around it is computed as this
+/// one; what is computed as 0 is sent as 0xffff. No datagram's is computed as 0xffff, since its protocol is
+/// summed, which is not 0.
+pub fn aimed(src: End, dst: End, mut data: Vec<u8>, wanted: u16) -> Vec<u8> {
+    data[..2].fill(0);
+    let stored = |data: &[u8]| {
+        let built = Call::Udp { src, dst }.ask_the_rust(data);
+        u16::from_be_bytes([built[6], built[7]])
+    };
+    let word = word_that_turns(stored(&data), wanted);
+    data[..2].copy_from_slice(&word.to_be_bytes());
+    assert_eq!(stored(&data), if wanted == 0 { 0xffff } else { wanted });
+    data
 }
 
 impl Payload {
@@ -186,6 +219,8 @@ impl Room {
 /// The list as it grows. It follows the Rust's id counter, which belongs to the process.
 pub struct List {
     pub draws: Draws,
+    /// What a datagram's addresses are drawn from.
+    pub addresses: Draws,
     lines: Lines,
     next_id: u16,
 }
@@ -194,6 +229,7 @@ impl List {
     pub fn new() -> Self {
         List {
             draws: Draws::new(BUILDERS_SEED),
+            addresses: Draws::new(ADDRESSES_SEED),
             lines: Lines::new(),
             next_id: 1,
         }
@@ -208,11 +244,14 @@ impl List {
     }
 
     /// Has the Rust build it, and checks all that a line leaves out: which id it took, and that the
-    /// payload follows the head and ends the frame.
+    /// payload follows the head and ends the frame. A datagram has to be RFC 768's, read a second time.
     pub fn build(&mut self, call: &Call, payload: &[u8]) -> Vec<u8> {
         let built = call.ask_the_rust(payload);
         assert_eq!(built.len(), call.head_len() + payload.len());
         assert!(built[call.head_len()..] == *payload);
+        if let Call::Udp { src, dst } = call {
+            assert!(built == document_01::datagram(*src, *dst, payload));
+        }
         if call.takes_id() {
             assert_eq!(built[18..20], self.next_id.to_be_bytes());
             self.next_id = self.next_id.wrapping_add(1);

@@ -1,5 +1,6 @@
 //! The comparison of the published Rust with the proved code, on the network that both are compiled for:
-//! oracle/compare says how it is run. The one exception from equality is `amended.rs`.
+//! oracle/compare says how it is run. The one exception from equality is `amended.rs`: the ports of a DHCP
+//! reply, and every datagram's checksum.
 
 mod amended;
 #[allow(dead_code)]
@@ -128,6 +129,7 @@ struct Told {
     builders: Vec<Row>,
     wraps: u64,
     wraps_in_sequences: u64,
+    all_ones: u64,
     samples: Vec<String>,
     done: usize,
     differs: bool,
@@ -158,6 +160,7 @@ impl Told {
                 self.wraps += all.parse::<u64>().unwrap();
                 self.wraps_in_sequences += in_sequences.parse::<u64>().unwrap();
             }
+            "all_ones" => self.all_ones += rest.parse::<u64>().unwrap(),
             "sample" => self.samples.push(rest.to_string()),
             "done" => self.done += 1,
             _ => {
@@ -327,6 +330,10 @@ fn table(plan: &Plan, told: &Told, took: Duration) -> (String, bool) {
         grouped(frames.cuts + builders.cuts)
     ));
     lines.push(format!(
+        "{} datagrams were built whose checksum is computed as 0 and sent as 0xffff.",
+        grouped(told.all_ones)
+    ));
+    lines.push(format!(
         "network {NUMBER}, seed {:#x}, processes {}, {:.0} s: {} frames, {} builder calls, 0 differences",
         plan.seed,
         plan.processes,
@@ -338,6 +345,7 @@ fn table(plan: &Plan, told: &Told, took: Duration) -> (String, bool) {
     let deeds = [
         told.wraps,
         told.wraps_in_sequences,
+        told.all_ones,
         frames.panics,
         frames.cuts,
         builders.panics,

@@ -3,7 +3,7 @@
 use published::SlirpBackend;
 
 use crate::ask_gateway::Whose;
-use crate::cases::Call;
+use crate::cases::{Call, aimed};
 use crate::compare_ours::{self, Told};
 use crate::compare_rust::{TheRust, verdict_of_panic};
 use crate::dhcp_vectors::option_bytes;
@@ -76,10 +76,18 @@ impl Builder {
                 dst_ip: draws.ip(),
                 proto: draws.proto(),
             }),
-            2 | 3 => Builder::Made(Call::Udp {
-                src_port: draws.port(),
-                dst_port: draws.port(),
-            }),
+            2 | 3 => {
+                let ports = [draws.port(), draws.port()];
+                let decided_by = [
+                    &turn.to_be_bytes()[..],
+                    &ports.map(u16::to_be_bytes).concat(),
+                ];
+                let mut own = Draws::of(&decided_by.concat());
+                Builder::Made(Call::Udp {
+                    src: (own.ip(), ports[0]),
+                    dst: (own.ip(), ports[1]),
+                })
+            }
             4..7 => Builder::Made(Call::Tcp {
                 dst_mac: draws.mac(),
                 src: (draws.ip(), draws.port()),
@@ -96,8 +104,25 @@ impl Builder {
     }
 
     /// A payload: mostly short, now and then long; seldom of any length up to the limit, around a power of
-    /// two or around the limit.
+    /// two or around the limit. Of the data of a datagram one in four has its checksum aimed at.
     pub fn payload(&self, draws: &mut Draws) -> Vec<u8> {
+        let payload = self.any_payload(draws);
+        let Builder::Made(call @ Call::Udp { src, dst }) = self else {
+            return payload;
+        };
+        let head = payload.get(..8).unwrap_or(&payload);
+        let decided_by = [&src.0[..], &dst.0, &payload.len().to_be_bytes(), head];
+        let mut own = Draws::of(&decided_by.concat());
+        let wanted = own.one_of(&[0, 0, 0, 0, 1, 0x00ff, 0x7fff, 0x8000, 0xff00, 0xfffe]);
+        match payload.len() {
+            2.. if payload.len() <= call.limit() && own.below(4) == 0 => {
+                aimed(*src, *dst, payload, wanted)
+            }
+            _ => payload,
+        }
+    }
+
+    fn any_payload(&self, draws: &mut Draws) -> Vec<u8> {
         let (_, limit) = head_and_limit(self);
         match self {
             Builder::LongChecksum => {
@@ -123,6 +148,10 @@ impl Builder {
             _ if len > 2_000 => crate::lines::ruled_bytes(draws.rule_seed(), len),
             _ => draws.bytes(len),
         }
+    }
+
+    pub fn is_datagram(&self) -> bool {
+        matches!(self, Builder::Made(Call::Udp { .. }))
     }
 
     fn is_checksum(&self) -> bool {
@@ -183,6 +212,12 @@ impl Builder {
             Builder::Made(_) => half_word(&built, 4) != built.len(),
             _ => false,
         };
+        if let Builder::Made(Call::Udp { src, dst }) = self
+            && !says_another_length
+            && built != document_01::datagram(*src, *dst, payload)
+        {
+            return Err("RFC 768, read a second time, has another datagram".to_string());
+        }
         let (verdict, reply, after, whose) = if says_another_length {
             let verdict = Verdict::TooLong(payload.len());
             (verdict, vec![], record, Whose::WhereCuts)

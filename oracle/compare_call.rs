@@ -137,7 +137,7 @@ impl Sides {
 
 fn words_for(whose: Whose) -> &'static str {
     match whose {
-        Whose::TheRust => "the Rust's own answer; of a DHCP reply, with document 02's ports",
+        Whose::TheRust => "the Rust's own answer, with document 02's ports and RFC 768's checksum",
         Whose::WherePanics => "document 01's answer, where the Rust panics",
         Whose::WhereCuts => "document 01's answer, where the Rust cuts a length",
         Whose::WhereNoRoom => "document 01's answer, where the Rust's is longer than the room",

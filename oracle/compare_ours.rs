@@ -36,7 +36,9 @@ unsafe extern "C" {
     ) -> u32;
 
     fn compared_udp_payload(
+        src_ip: *const u8,
         src_port: u16,
+        dst_ip: *const u8,
         dst_port: u16,
         data: *const u8,
         data_len: usize,
@@ -180,8 +182,9 @@ pub fn built(record: Record, call: &Call, payload: &[u8], out: &mut [u8]) -> Tol
                 room,
                 told,
             ),
-            Call::Udp { src_port, dst_port } => {
-                compared_udp_payload(*src_port, *dst_port, bytes, len, at, room, told)
+            Call::Udp { src, dst } => {
+                let (from, to) = (src.0.as_ptr(), dst.0.as_ptr());
+                compared_udp_payload(from, src.1, to, dst.1, bytes, len, at, room, told)
             }
             Call::Tcp {
                 dst_mac,

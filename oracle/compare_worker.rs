@@ -72,6 +72,8 @@ struct Worker {
     /// How often our record's id went from 65,535 to 0, and how often of these in a sequence.
     wraps: u64,
     wraps_in_sequences: u64,
+    /// How many datagrams were built whose checksum is computed as 0.
+    all_ones: u64,
 }
 
 /// Runs as the process with this number, and says whether there was no difference.
@@ -96,6 +98,7 @@ pub fn work(plan: &Plan, process: u64) -> bool {
         println!("builder {}", row.told());
     }
     println!("wraps {} {}", worker.wraps, worker.wraps_in_sequences);
+    println!("all_ones {}", worker.all_ones);
     for line in worker.sample.lines(|row| worker.rows[row].name.clone()) {
         println!("sample {line}");
     }
@@ -132,6 +135,7 @@ impl Worker {
             builders: 0,
             wraps: 0,
             wraps_in_sequences: 0,
+            all_ones: 0,
         }
     }
 
@@ -269,6 +273,8 @@ impl Worker {
         let (answer, whose) = self.both(&input)?;
         let (number, ..) = numbers(answer.verdict);
         self.builder_rows[builder.index()].count(number, whose);
+        self.all_ones +=
+            u64::from(builder.is_datagram() && answer.reply.get(6..8) == Some(&[0xff; 2]));
         self.builders += 1;
         Ok(())
     }

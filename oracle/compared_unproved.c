@@ -8,7 +8,7 @@ typedef struct {
 #define WITHIN(name) __asm__("unproved::" name)
 unsigned handle_within(void *, void *, void *, void *, Slice *, Slice *, void *) WITHIN("compared_handle");
 unsigned ip_frame_within(void *, void *, void *, void *, const void *, const void *, const void *, unsigned char, Slice *, Slice *, void *) WITHIN("compared_ip_frame");
-unsigned udp_payload_within(unsigned short, unsigned short, Slice *, Slice *, void *) WITHIN("compared_udp_payload");
+unsigned udp_payload_within(const void *, unsigned short, const void *, unsigned short, Slice *, Slice *, void *) WITHIN("compared_udp_payload");
 unsigned tcp_frame_within(void *, void *, void *, void *, const void *, const void *, unsigned short, const void *, unsigned short, unsigned, unsigned, unsigned char, Slice *, Slice *, void *) WITHIN("compared_tcp_frame");
 unsigned dhcp_reply_within(const void *, unsigned, const void *, unsigned char, Slice *, void *) WITHIN("compared_dhcp_reply");
 unsigned message_type_within(Slice *, void *) WITHIN("compared_message_type");
@@ -28,10 +28,10 @@ unsigned compared_ip_frame(void *mac, void *id, void *xid, void *network, const 
     return ip_frame_within(mac, id, xid, network, dst_mac, src_ip, dst_ip, proto, &in, &out, values);
 }
 
-unsigned compared_udp_payload(unsigned short src_port, unsigned short dst_port, const void *data, unsigned long len, void *reply,
-                              unsigned long room, void *values) {
+unsigned compared_udp_payload(const void *src_ip, unsigned short src_port, const void *dst_ip, unsigned short dst_port, const void *data,
+                              unsigned long len, void *reply, unsigned long room, void *values) {
     Slice in = {data, len}, out = {reply, room};
-    return udp_payload_within(src_port, dst_port, &in, &out, values);
+    return udp_payload_within(src_ip, src_port, dst_ip, dst_port, &in, &out, values);
 }
 
 unsigned compared_tcp_frame(void *mac, void *id, void *xid, void *network, const void *dst_mac, const void *src_ip, unsigned short src_port, const void *dst_ip,

@@ -1,7 +1,7 @@
 //! Document 01's answer to one call, read from its text a second time and not from the Rust: the
 //! order of tests on a guest's frame, the frames built, and the record. Addresses, mask and lease time
-//! are the record's, as document 02's request 1/13 has it, and a DHCP reply goes from 67 to 68, as 2/13 has
-//! it ("The reply's UDP header becomes 00 43 00 44").
+//! are the record's, as document 02's request 1/13 has it, a DHCP reply goes from 67 to 68, as 2/13 has it
+//! ("The reply's UDP header becomes 00 43 00 44"), and a datagram has the checksum of RFC 768, as 6/13 has it.
 
 use crate::draws::GATEWAY_MAC;
 use crate::networks::Network;
@@ -154,8 +154,8 @@ fn dhcp(record: Record, frame: &[u8], data: &[u8], room: usize) -> Answer {
         Err(place) => return without_reply(record, Verdict::CutType(place)),
     };
     let message = dhcp_reply(taken, reply_type);
-    let udp = [&[0, 67, 0, 68, 1, 52, 0, 0], &message[..]].concat();
-    let target = broadcast(record.network);
+    let (gateway, target) = (record.network.gateway, broadcast(record.network));
+    let udp = datagram((gateway, 67), (target, 68), &message);
     let reply = ip_frame(record, &frame[6..12], &target, 17, &udp);
     built(record, with_id_spent(taken), reply, room)
 }
@@ -249,6 +249,20 @@ pub fn ip_frame(
     };
     let header = header_around(checksum(&header_around([0, 0])));
     [mac, &GATEWAY_MAC, &[0x08, 0x00], &header, payload].concat()
+}
+
+/// A datagram between these addresses and ports, as RFC 768 has it. Its checksum is document 01's of the
+/// pseudo-header and the datagram with 0 in the checksum's place, and all ones where that is 0.
+pub fn datagram(source: ([u8; 4], u16), target: ([u8; 4], u16), data: &[u8]) -> Vec<u8> {
+    let length = ((8 + data.len()) as u16).to_be_bytes();
+    let pseudo_header = [&source.0[..], &target.0, &[0, 17], &length].concat();
+    let ports = [source.1.to_be_bytes(), target.1.to_be_bytes()].concat();
+    let with_checksum = |field: [u8; 2]| [&ports[..], &length, &field, data].concat();
+    let field = match checksum(&[pseudo_header, with_checksum([0, 0])].concat()) {
+        [0, 0] => [0xff, 0xff],
+        computed => computed,
+    };
+    with_checksum(field)
 }
 
 pub fn checksum(bytes: &[u8]) -> [u8; 2] {

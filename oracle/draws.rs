@@ -4,6 +4,7 @@ use crate::networks::{BROADCAST, HERE};
 
 /// Each list has a seed of its own, so that none moves another's draws.
 pub const BUILDERS_SEED: u64 = 0x9e37_79b9_7f4a_7c15;
+pub const ADDRESSES_SEED: u64 = 0x6a09_e667_f3bc_c909;
 pub const DHCP_SEED: u64 = 0x2545_f491_4f6c_dd1d;
 pub const GATEWAY_SEED: u64 = 0xd1b5_4a32_d192_ed03;
 #[allow(dead_code)] // by oracle/vectors
@@ -21,6 +22,17 @@ pub struct Draws(u64);
 impl Draws {
     pub fn new(seed: u64) -> Self {
         Draws(seed)
+    }
+
+    /// Draws that these bytes decide, and nothing else: they move none of the others.
+    #[allow(dead_code)] // by oracle/vectors
+    pub fn of(bytes: &[u8]) -> Self {
+        let mixed = bytes.iter().fold(0, |mixed: u64, byte| {
+            (mixed ^ u64::from(*byte))
+                .wrapping_mul(0x9e37_79b9_7f4a_7c15)
+                .rotate_left(29)
+        });
+        Draws(mixed | 1)
     }
 
     fn next(&mut self) -> u64 {

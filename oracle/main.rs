@@ -1,5 +1,6 @@
 //! The driver: calls the published Rust and prints what it answers, on document 01's network or on the
-//! other one that it was compiled for. A DHCP reply has the ports of document 02 (`amended.rs`).
+//! other one that it was compiled for. A DHCP reply has the ports of document 02, and a datagram the checksum
+//! of RFC 768 (`amended.rs`).
 
 mod amended;
 mod ask_dhcp;

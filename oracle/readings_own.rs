@@ -1,11 +1,12 @@
-//! Frames that the gateway and the builders make: the answers of the published Rust, out of the list
-//! that `replay` replays. The gateway's replies have to be in the grammar, all of them.
+//! Frames that the gateway and the builders make: the answers of the published Rust, and the datagrams of
+//! others, out of the list that `replay` replays. The gateway's replies have to be in the grammar, all of
+//! them, and so have the datagrams, whose checksum is none of 0, but for those of DHCP's ports.
 
 use crate::document_01::{Record, ip_frame};
-use crate::draws::{GUEST_IP, GUEST_MAC};
+use crate::draws::GUEST_MAC;
 use crate::grammar_01::Kind;
 use crate::lines::{bytes_of, ruled_bytes};
-use crate::networks::HERE;
+use crate::networks::{HERE, Network};
 use crate::pieces::laid;
 use crate::reading_cases::{Origin, ReadingList};
 
@@ -106,20 +107,33 @@ fn tcp_frames(list: &mut ReadingList) {
     }
 }
 
-/// A datagram of the builder's, in the frame that document 01 says the other builder makes.
+/// A datagram of the builder's, in the frame that document 01 says the other builder makes, between the
+/// same addresses: every second, and those whose checksum is computed as 0.
 fn datagrams(list: &mut ReadingList) {
-    let datagrams = cases();
-    let datagrams = datagrams.iter().filter(|case| case[0] == 5);
-    for (turn, datagram) in datagrams.filter_map(|case| built(case, 5)).enumerate() {
+    let cases = cases();
+    let cases = cases.iter().filter(|case| case[0] == 5);
+    let built = cases.filter_map(|case| Some((case, built(case, 13)?)));
+    for (turn, (case, datagram)) in built.enumerate() {
+        let (source, target) = (&case[1..5], &case[7..11]);
+        let network = Network {
+            gateway: source.try_into().unwrap(),
+            ..HERE
+        };
         let record = Record {
             mac: GUEST_MAC,
             id: turn as u16,
             xid: 0,
-            network: HERE,
+            network,
         };
-        let frame = ip_frame(record, &GUEST_MAC, &GUEST_IP, 17, &datagram);
-        if frame.len() <= LONGEST {
-            list.judged(Origin::Own, &frame);
+        let frame = ip_frame(record, &GUEST_MAC, target, 17, &datagram);
+        assert!(datagram[6..8] != [0, 0]);
+        let is_listed = turn % 2 == 0 || datagram[6..8] == [0xff, 0xff];
+        if frame.len() > LONGEST || !is_listed {
+            continue;
+        }
+        match [number(&datagram[..2]), number(&datagram[2..4])] {
+            [67, 68] | [68, 67] => drop(list.judged(Origin::Own, &frame)),
+            _ => drop(list.taken(Origin::Own, Kind::Udp, &frame)),
         }
     }
 }

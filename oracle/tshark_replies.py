@@ -1,7 +1,7 @@
 """Our gateway's replies to real guests as tshark reads them, in whole exchanges.
 
 Of each frame of the gateway's tshark has to find nothing malformed and nothing to remark on, every checksum
-that is there right, and a reply to a frame of the guest's: to a DHCP discover an offer, to a request an
+right and none absent, and a reply to a frame of the guest's: to a DHCP discover an offer, to a request an
 acknowledgement, each with the xid asked, from 67 to 68; to a ping its echo; to an ARP request a reply. The
 guest's frames are read by tshark too, so that who is right about both is not us.
 """
@@ -11,7 +11,8 @@ from collections import Counter
 
 import pcap
 from tap import GATEWAY_MAC
-from tshark import ABSENT, GOOD, dissected
+from tshark import GOOD, dissected
+from tshark_spoiled import flipped, header_summed, unsummed_ways, with_udp_checksum
 
 CAPTURED = pathlib.Path(__file__).resolve().parent / "leases_captured.txt"
 GATEWAY = bytes.fromhex(GATEWAY_MAC.replace(":", ""))
@@ -72,7 +73,7 @@ def answered(said):
     if said["ip.proto"] == "17":
         message_type = said["dhcp.option.dhcp"]
         answer = "DHCP", said["dhcp.id"], message_type
-        has_to_be |= {"udp.srcport": {"67"}, "udp.dstport": {"68"}, "udp.checksum.status": {GOOD, ABSENT}}
+        has_to_be |= {"udp.srcport": {"67"}, "udp.dstport": {"68"}, "udp.checksum.status": {GOOD}}
         has_to_be |= {"dhcp.type": {"2"}, "dhcp.option.dhcp": {OFFER, ACK}, "dhcp.option.end": {"255"}}
         if not said["_ws.col.Info"].startswith(NAMED.get(message_type, "DHCP ")):
             return answer, {"_ws.col.Info": said["_ws.col.Info"]}
@@ -115,12 +116,6 @@ def are_good(exchanges):
     return every_bad == 0 and total > 0
 
 
-def flipped(frame, place, bit=1):
-    spoiled = bytearray(frame)
-    spoiled[place] ^= bit
-    return bytes(spoiled)
-
-
 def is_udp(frame):
     return frame[12:14] == b"\x08\x00" and frame[23] == 17
 
@@ -129,38 +124,38 @@ def is_ping(frame):
     return frame[12:14] == b"\x08\x00" and frame[23] == 1
 
 
-def resummed(frame):
-    """With its IPv4 header's sum made right."""
-    head = frame[14:24] + b"\0\0" + frame[26:34]
-    total = sum(struct.unpack("!10H", head))
-    total = (total & 0xFFFF) + (total >> 16)
-    total = (total & 0xFFFF) + (total >> 16)
-    return frame[:24] + struct.pack("!H", 0xFFFF - total) + frame[26:]
-
-
 def with_ports(source, target):
     ports = struct.pack("!HH", source, target)
     return lambda frame: frame[:34] + ports + frame[38:]
 
 
+def summed(spoil):
+    """The same with the UDP checksum made right behind it, so that what is found is not the checksum."""
+    return lambda frame: with_udp_checksum(spoil(frame))
+
+
+def message_flipped(place, bit):
+    return summed(lambda frame: flipped(frame, 42 + place, bit))
+
+
 # Each way to spoil a reply: of which frames, and how.
 WAYS = {
-    "ports as they were, 68 to 67": (is_udp, with_ports(68, 67)),
-    "67 to 67": (is_udp, with_ports(67, 67)),
-    "68 to 68": (is_udp, with_ports(68, 68)),
-    "ports that DHCP does not have": (is_udp, with_ports(323, 324)),
-    "the type of another message": (is_udp, lambda frame: flipped(frame, 42 + 242, 7)),
-    "the type of no reply": (is_udp, lambda frame: flipped(frame, 42 + 242, 8)),
-    "another xid": (is_udp, lambda frame: flipped(frame, 42 + 4)),
-    "a request's first byte": (is_udp, lambda frame: flipped(frame, 42, 3)),
-    "no cookie": (is_udp, lambda frame: flipped(frame, 42 + 236)),
-    "an option past the end": (is_udp, lambda frame: flipped(frame, 42 + 268, 0x80)),
-    "no END": (is_udp, lambda frame: flipped(frame, 42 + 273, 0xFF)),
-    "a wrong UDP checksum": (is_udp, lambda frame: flipped(frame, 41)),
+    "ports as they were, 68 to 67": (is_udp, summed(with_ports(68, 67))),
+    "67 to 67": (is_udp, summed(with_ports(67, 67))),
+    "68 to 68": (is_udp, summed(with_ports(68, 68))),
+    "ports that DHCP does not have": (is_udp, summed(with_ports(323, 324))),
+    "the type of another message": (is_udp, message_flipped(242, 7)),
+    "the type of no reply": (is_udp, message_flipped(242, 8)),
+    "another xid": (is_udp, message_flipped(4, 1)),
+    "a request's first byte": (is_udp, message_flipped(0, 3)),
+    "no cookie": (is_udp, message_flipped(236, 1)),
+    "an option past the end": (is_udp, message_flipped(268, 0x80)),
+    "no END": (is_udp, message_flipped(273, 0xFF)),
+    **{words: (is_udp, spoil) for words, spoil in unsummed_ways().items()},
     "a wrong UDP length": (is_udp, lambda frame: flipped(frame, 39, 0x80)),
     "cut behind 200 bytes": (is_udp, lambda frame: frame[:200]),
     "a wrong IPv4 checksum": (is_udp, lambda frame: flipped(frame, 25)),
-    "another protocol": (is_udp, lambda frame: resummed(flipped(frame, 23, 2))),
+    "another protocol": (is_udp, lambda frame: header_summed(flipped(frame, 23, 2))),
     "a byte behind the end": (is_udp, lambda frame: frame + b"\0"),
     "a ping with the ports of DHCP in it": (is_ping, with_ports(67, 68)),
     "a wrong ICMP checksum": (is_ping, lambda frame: flipped(frame, 37)),

@@ -13,14 +13,14 @@ const STDIN: i32 = 0;
 const STDOUT: i32 = 1;
 
 // The largest input, with a byte to spare.
-const TEXT_ROOM: usize = 1572864;
+const TEXT_ROOM: usize = 1835008;
 
 fn main() {
     let mut space = vectors::large_space();
     let text = vectors::front(&mut space, TEXT_ROOM);
     let n = io::read_full(STDIN, text);
     if n == text.len() {
-        io::write_all(STDOUT, b"input over 1572863\n");
+        io::write_all(STDOUT, b"input over 1835007\n");
         return;
     }
     let mut line = io::buffer();
