@@ -53,10 +53,9 @@ check_zero() {
 
 # With source and target exchanged a datagram's sum is the same: so an echo is the kernel's datagram byte for
 # byte behind the ports, its checksum among them.
-check_echoes_in_capture() {
-    local asked
-    asked=$(count "$echo_request")
-    same "$asked datagrams to port 7, as many echoes" "$(count "$echo_reply")" "$asked"
+check_echoes_in_capture() { # HOW MANY
+    same "$1 datagrams to port 7, as many echoes" \
+        "$(count "$echo_request") and $(count "$echo_reply")" "$1 and $1"
     same "what is echoed is what the capture has, with MACs, ports and lengths" "$(grep '^echo ' "$work/printed")" \
         "$(echoes_in_capture)"
     same "behind the ports our datagrams are the kernel's, byte for byte, with its checksums" \
@@ -64,6 +63,7 @@ check_echoes_in_capture() {
     same "the gateway sends echoes and answers to ARP, and nothing else" \
         "$(captured "$from_gateway and not ($echo_reply or $arp_reply)")" ""
     check_sums
+    check_udp_sums
 }
 
 check_sockets() { # PROGRAM NETWORK
@@ -78,7 +78,7 @@ check_sockets() { # PROGRAM NETWORK
     same "the kernel finds no wrong UDP checksum" "$(wrong_sums)" 0
     check_end 0 'dns 0, relay 0, tcp 0' 1
     check_ids "$guest_mac"
-    check_echoes_in_capture
+    check_echoes_in_capture $((${#echo_sizes[@]} + 1))
 }
 
 # --- wrong checksums, by wrong_tap.rs
