@@ -1,5 +1,5 @@
 # The self-test of rust/tap-namespace, which reads this file: faults are put around the gateway
-# (wrong_tap.rs), one at a time, and the checks of the DHCP clients and of the sockets have to fail under them.
+# (wrong_tap.rs), one at a time, and the checks of the DHCP clients and the sockets have to fail under them.
 
 at_once=3 # faults
 
