@@ -1,13 +1,12 @@
 -- Pieces put one behind the other, from a buffer's first byte on, are one piece at its front.
-use Prim.Native.Nat.{ℕ, _+_, _-_, _≤_}
+use Prim.Native.Nat.{ℕ, _+_, _≤_}
 use mathlib.Core.Path.{_≡_, refl, ap, sym, _∙_}
 use mathlib.Core.List.{List, [], _++_}
 use native.Mathlib.Omega.{arith}
 use native.Mathlib.Nat.{zero-add}
-use lib.ListN.{length, take, drop, length-append, length-take, length-drop}
-use lib.Seq.{take-length}
+use lib.ListN.{length, length-append}
 use Rattle.base.specs.Buffer.{put, putIfFits}
-use Rattle.base.proofs.Lists.{fits, length-put, put-put, put-front, copied}
+use Rattle.base.proofs.Lists.{fits, length-put, put-put, put-front}
 
 -- the buffer `b` once `front`, of `len` bytes, stands at its front
 pub record Front (b front : List ℕ) (len : ℕ) (now : List ℕ) : Type 0 where
@@ -41,20 +40,6 @@ behind {b} {front} {now} {len} f piece n e room {after} p =
 pub behind-as : {b front now : List ℕ} {len : ℕ} → Front b front len now → (piece : List ℕ) (n : ℕ) → length piece ≡ n → len + n ≤ length b
     → (put-there : List ℕ) → put-there ≡ piece → {after : List ℕ} → after ≡ putIfFits len put-there now → Front b (front ++ piece) (len + n) after
 behind-as {b} {front} {now} {len} f piece n e room put-there same p = behind f piece n e room (p ∙ ap (λ (s : List ℕ). putIfFits len s now) same)
-
--- the same of a piece written at the front of what lies from `len` on, as the code hands a part of a buffer on
-pub behind-in-part : {b front now : List ℕ} {len : ℕ} → Front b front len now → (piece : List ℕ) (n : ℕ) → length piece ≡ n → len + n ≤ length b
-    → (rest : List ℕ) → rest ≡ put 0 piece (take (length now - len) (drop len now))
-    → {after : List ℕ} → after ≡ take len now ++ (rest ++ drop (length now - len) (drop len now)) → Front b (front ++ piece) (len + n) after
-behind-in-part {b} {front} {now} {len} f piece n e room rest r {after} p =
-    behind f piece n e room
-    (p
-    ∙ copied len piece now rest (omega (arith, same))
-    (r ∙ put-front piece _ ∙ ap (λ (s : List ℕ). s ++ drop (length piece) (take (length now - len) (drop len now))) (sym (take-length piece)))
-    ∙ sym (fits len piece now (omega (arith, e, same))))
-  where
-    same : length now ≡ length b
-    same = ap length (f .bytes) ∙ length-put 0 front b (omega (arith, f .long))
 
 -- two pieces, one behind the other, that fit together
 pub two-pieces : (first second : List ℕ) (n m : ℕ) (b one two now after : List ℕ) → length first ≡ n → length second ≡ m → n + m ≤ length b → one ≡ first → two ≡ second

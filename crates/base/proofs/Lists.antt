@@ -90,6 +90,19 @@ module _ (at : ℕ) (s b : List ℕ) where
   unfolding putIfFits
   no-fit h = simp (lt-leb (at + length s) (length b) h)
 
+-- what is put at the front
+pub put-front : (s b : List ℕ) → put 0 s b ≡ s ++ drop (length s) b
+unfolding put
+put-front s b = ap (λ (n : ℕ). s ++ drop n b) (zero-add (length s))
+
+-- a piece written at the front of what lies from `at` on, as the code hands a part of a buffer on
+pub put-in-part : (at : ℕ) (s b rest after : List ℕ) → at + length s ≤ length b → rest ≡ putIfFits 0 s (take (length b - at) (drop at b))
+    → after ≡ take at b ++ (rest ++ drop (length b - at) (drop at b)) → after ≡ put at s b
+put-in-part at s b rest after h r p =
+    let part-of = take (length b - at) (drop at b) in
+    let there : rest ≡ put 0 s part-of = r ∙ fits 0 s part-of (simp (length-take, length-drop) (omega arith)) in
+    p ∙ copied at s b rest (omega arith) (there ∙ put-front s part-of ∙ ap (λ (l : List ℕ). l ++ drop (length s) part-of) (sym (take-length s)))
+
 -- two pieces, the second right behind the first, are one piece
 pub put-put : (at : ℕ) (s t b : List ℕ) → at + (length s + length t) ≤ length b → put (at + length s) t (put at s b) ≡ put at (s ++ t) b
 unfolding put
@@ -133,11 +146,6 @@ put-in-front at s t b h = ap₂ (λ (x y : List ℕ). x ++ s ++ y) front behind 
 
     regroup : take at b ++ s ++ (t ++ drop (at + length s + length t) b) ≡ put at (s ++ t) b
     regroup = simp (append-assoc, length-append, add-assoc)
-
--- what is put at the front
-pub put-front : (s b : List ℕ) → put 0 s b ≡ s ++ drop (length s) b
-unfolding put
-put-front s b = ap (λ (n : ℕ). s ++ drop n b) (zero-add (length s))
 
 -- a header in front of `len` bytes that lie behind it already
 pub put-before : (h b : List ℕ) (len : ℕ) → length h + len ≤ length b → put 0 h b ≡ (h ++ part b (length h) len) ++ drop (length h + len) b

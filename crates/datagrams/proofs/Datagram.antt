@@ -7,9 +7,9 @@ use native.Mathlib.Omega.{arith}
 use lib.ListN.{length}
 use Rattle.base.proofs.Lists.{all-bytes}
 use Rattle.sums.specs.Rfc1071.{words, sum, total, fold, checksum, SumsRight}
-use Rattle.sums.proofs.Laws.{total-append, fold-most, fold-few-rounds, sums-right}
-use Rattle.wire.specs.Rfc768.{headerWith, pseudoHeader, covered, transmitted, checksumOf, datagram}
-use Rattle.wire.proofs.Covered.{length-pseudoHeader, protocol-counts}
+use Rattle.sums.proofs.Laws.{total-append, fold-fold, fold-most, fold-few-rounds, sums-right}
+use Rattle.wire.specs.Rfc768.{datagramHeader, pseudoHeader, covered, transmitted, checksumOf, datagram}
+use Rattle.wire.proofs.Covered.{total-covered, protocol-counts}
 
 -- a datagram is 8 bytes longer than its data
 pub length-datagram : (from to : List ℕ) (source target : ℕ) (d : List ℕ) → length (datagram from to source target d) ≡ 8 + length d
@@ -38,60 +38,58 @@ transmitted-sums-right s t some e = go (transmitted-cases (checksum t))
     go (inr (none, ones)) = ap fold (e ∙ omega (arith, ones)) ∙ fold-few-rounds (total t) 1 some ∙ omega (arith, none, fold-most (total t))
 
 -- the header with a checksum in it, in words
-total-headerWith : (c source target len : ℕ) → total (headerWith c source target len) ≡ total (headerWith 0 source target len) + c
+total-header : (c source target len : ℕ) → total (datagramHeader c source target len) ≡ total (datagramHeader 0 source target len) + c
 unfolding total words sum
-total-headerWith c source target len = omega arith
-
--- a header and data behind a pseudo-header of this length
-total-behind : (from to : List ℕ) → length from ≡ 4 → length to ≡ 4 → (csum source target len : ℕ) (d : List ℕ)
-    → total (pseudoHeader from to 17 len ++ (headerWith csum source target len ++ d)) ≡ total (pseudoHeader from to 17 len) + (total (headerWith csum source target len) + total d)
-total-behind from to four four′ csum source target len d =
-    total-append 6 (pseudoHeader from to 17 len) (headerWith csum source target len ++ d) (length-pseudoHeader from to four four′ 17 len)
-    ∙ ap (λ (n : ℕ). total (pseudoHeader from to 17 len) + n) (total-append 4 (headerWith csum source target len) d refl)
+total-header c source target len = omega arith
 
 module _ (from to : List ℕ) (four : length from ≡ 4) (four′ : length to ≡ 4) (source target : ℕ) (d : List ℕ) where
-  abbrev len : ℕ
-  len = 8 + length d
-
-  abbrev blank : List ℕ
-  blank = pseudoHeader from to 17 len ++ (headerWith 0 source target len ++ d)
+  abbrev front : ℕ
+  front = total (pseudoHeader from to 17 (8 + length d)) + total (datagramHeader 0 source target (8 + length d))
 
   -- header and data, with this checksum, behind the pseudo-header
-  total-with : (c : ℕ) → total (covered 17 from to (headerWith c source target len ++ d)) ≡ total blank + c
-  unfolding covered
+  total-with : (c : ℕ) → total (covered 17 from to (datagramHeader c source target (8 + length d) ++ d)) ≡ front + total d + c
   total-with c =
-      let long : length (headerWith c source target len ++ d) ≡ len = omega arith in
-      ap (λ (n : ℕ). total (pseudoHeader from to 17 n ++ (headerWith c source target len ++ d))) long
-      ∙ omega (arith, total-behind from to four four′ c source target len d, total-behind from to four four′ 0 source target len d, total-headerWith c source target len)
+      let header = datagramHeader c source target (8 + length d) in
+      let long : length (header ++ d) ≡ 8 + length d = omega arith in
+      total-covered from to four four′ 17 (header ++ d)
+      ∙ ap (λ (n : ℕ). total (pseudoHeader from to 17 n) + total (header ++ d)) long
+      ∙ omega (arith, total-append 4 header d refl, total-header c source target (8 + length d))
+
+  -- a sum that is begun over what stands before the data, and continued over that, is the sum of all: so its complement, as it is transmitted, is the checksum
+  pub checksum-continued : (begun all : ℕ) → begun ≡ fold front → all ≡ fold (begun + total d) → transmitted (65535 - all) ≡ checksumOf from to source target d
+  unfolding checksumOf checksum
+  checksum-continued begun all e f =
+      ap (λ (n : ℕ). transmitted (65535 - n)) (f ∙ ap (λ (n : ℕ). fold (n + total d)) e ∙ fold-fold front (total d) ∙ ap fold (omega (arith, total-with 0)))
 
   -- RFC 768, "Fields": the datagram's words with those of its pseudo-header fold to 65,535
   pub datagram-sums-right : SumsRight (covered 17 from to (datagram from to source target d))
   unfolding datagram checksumOf
   datagram-sums-right =
-      let some : 1 ≤ total blank = omega (arith, protocol-counts from to four four′ 17 len, total-behind from to four four′ 0 source target len d) in
-      transmitted-sums-right _ blank some (total-with (transmitted (checksum blank)))
+      let blank = covered 17 from to (datagramHeader 0 source target (8 + length d) ++ d) in
+      let some : 1 ≤ total blank = omega (arith, protocol-counts from to four four′ 17 (8 + length d), total-with 0) in
+      transmitted-sums-right _ blank some (omega (arith, total-with (transmitted (checksum blank)), total-with 0))
 
 -- and its checksum is not 0, which would say that there is none
-pub checksum-some : (from to : List ℕ) (source target len : ℕ) (d : List ℕ) → checksumOf from to source target len d ≡ 0 → ⊥
+pub checksum-some : (from to : List ℕ) (source target : ℕ) (d : List ℕ) → checksumOf from to source target d ≡ 0 → ⊥
 unfolding checksumOf
-checksum-some from to source target len d = transmitted-some _
+checksum-some from to source target d = transmitted-some _
 
 -- The two addresses exchanged give the same checksum, and so do the two ports: the words are the same, in another order.
-module _ (from to : List ℕ) (four : length from ≡ 4) (four′ : length to ≡ 4) (source target len : ℕ) (d : List ℕ) where
-  same-addresses : total (pseudoHeader to from 17 len) ≡ total (pseudoHeader from to 17 len)
+module _ (from to : List ℕ) (four : length from ≡ 4) (four′ : length to ≡ 4) (source target : ℕ) (d : List ℕ) where
+  same-addresses : (len : ℕ) → total (pseudoHeader to from 17 len) ≡ total (pseudoHeader from to 17 len)
   unfolding total words sum pseudoHeader
-  same-addresses = rw (all-bytes from 4 four, all-bytes to 4 four′) (omega arith)
+  same-addresses len = rw (all-bytes from 4 four, all-bytes to 4 four′) (omega arith)
 
-  same-ports : total (headerWith 0 target source len) ≡ total (headerWith 0 source target len)
+  same-ports : (len : ℕ) → total (datagramHeader 0 target source len) ≡ total (datagramHeader 0 source target len)
   unfolding total words sum
-  same-ports = omega arith
+  same-ports len = omega arith
 
-  pub addresses-exchanged : checksumOf to from source target len d ≡ checksumOf from to source target len d
+  pub addresses-exchanged : checksumOf to from source target d ≡ checksumOf from to source target d
   unfolding checksumOf checksum
   addresses-exchanged =
-      ap (λ (n : ℕ). transmitted (65535 - fold n)) (omega (arith, total-behind to from four′ four 0 source target len d, total-behind from to four four′ 0 source target len d, same-addresses))
+      ap (λ (n : ℕ). transmitted (65535 - fold n)) (omega (arith, total-with to from four′ four source target d 0, total-with from to four four′ source target d 0, same-addresses (8 + length d)))
 
-  pub ports-exchanged : checksumOf from to target source len d ≡ checksumOf from to source target len d
+  pub ports-exchanged : checksumOf from to target source d ≡ checksumOf from to source target d
   unfolding checksumOf checksum
   ports-exchanged =
-      ap (λ (n : ℕ). transmitted (65535 - fold n)) (omega (arith, total-behind from to four four′ 0 target source len d, total-behind from to four four′ 0 source target len d, same-ports))
+      ap (λ (n : ℕ). transmitted (65535 - fold n)) (omega (arith, total-with from to four four′ target source d 0, total-with from to four four′ source target d 0, same-ports (8 + length d)))

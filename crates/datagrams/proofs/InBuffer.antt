@@ -9,8 +9,8 @@ use Rattle.record.specs.declared.answer.Verdict.{Verdict}
 use Rattle.record.specs.declared.guest.Guest.{Guest}
 use Rattle.record.proofs.InBuffer.{InBuffer, in-buffer}
 use Rattle.wire.specs.Rfc768.{datagram}
-use Rattle.frames.specs.Builders.{makeIpFrame}
-use Rattle.frames.proofs.InBuffer.{ip-frame-in-buffer}
+use Rattle.frames.specs.Builders.{makeIpFrame, makeIpFrameInPlace}
+use Rattle.frames.proofs.InBuffer.{ip-frame-in-buffer, ip-frame-in-place-in-buffer}
 use Rattle.datagrams.specs.Builders.{makeUdpPayload}
 use Rattle.datagrams.proofs.Datagram.{length-datagram}
 use Rattle.datagrams.proofs.ReadBack.{DatagramOf, datagram-reads-back, datagram-frame-reads-back}
@@ -31,4 +31,11 @@ module _ (before after : List ℕ) (v : Verdict) (n : ℕ) (from to : List ℕ) 
         → Meets (makeIpFrame guest mac from to 17 (take n after) (length before′)) before′ after′ a → DatagramOf (drop 34 (take m after′)) from to source target d
     datagram-in-frame-reads-back guest mac before′ after′ a m six one′ meets =
         let framed = rw (datagram-in-buffer .front) at (ip-frame-in-buffer guest before′ after′ a m one′ mac from to 17 six four four′ (take n after) meets) in
+        rw (framed .front) (datagram-frame-reads-back from to four four′ source target d mac (guest .id) six)
+
+    -- and the frame of `make_ip_frame_in_place`, where the datagram was built at 34 of that buffer
+    pub datagram-in-place-reads-back : (guest : Guest) (mac before′ after′ : List ℕ) (a : Answer) (m : ℕ) → length mac ≡ 6 → paper (a .verdict) ≡ 1 ∷ m ∷ [] → drop 34 before′ ≡ after
+        → Meets (makeIpFrameInPlace guest mac from to 17 n before′) before′ after′ a → DatagramOf (drop 34 (take m after′)) from to source target d
+    datagram-in-place-reads-back guest mac before′ after′ a m six one′ there meets =
+        let framed = rw (there, datagram-in-buffer .front) at (ip-frame-in-place-in-buffer guest before′ after′ a m one′ mac from to 17 six four four′ n meets) in
         rw (framed .front) (datagram-frame-reads-back from to four four′ source target d mac (guest .id) six)

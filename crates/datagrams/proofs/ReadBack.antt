@@ -1,6 +1,6 @@
 -- The fields of a datagram, read from its bytes at their offsets, are the ones that were put in; it sums right, and so does the datagram in a frame around it.
-use Prim.Native.Nat.{ℕ, _+_}
-use mathlib.Core.Path.{_≡_, refl, ap, sym, _∙_}
+use Prim.Native.Nat.{ℕ}
+use mathlib.Core.Path.{_≡_, refl, sym, _∙_}
 use mathlib.Core.List.{List}
 use native.Mathlib.Omega.{arith}
 use lib.ListN.{length, drop}
@@ -9,20 +9,20 @@ use Rattle.wire.specs.Rfc768 as Udp
 use Rattle.wire.specs.Rfc768.{covered, checksumOf, datagram}
 use Rattle.frames.specs.Frames.{ipFrame}
 use Rattle.frames.proofs.Lengths.{drop-34}
-use Rattle.datagrams.proofs.Datagram.{length-datagram, datagram-sums-right, checksum-some}
+use Rattle.datagrams.proofs.Datagram.{datagram-sums-right, checksum-some}
 
 -- RFC 768, "Fields": `s` is a datagram from one address and port to another, around this data
 pub record DatagramOf (s from to : List ℕ) (source target : ℕ) (d : List ℕ) : Type 0 where
   pub source-port : Udp.sourcePort s ≡ source
   pub target-port : Udp.targetPort s ≡ target
   pub length-is : Udp.lengthField s ≡ length s
-  pub checksum-is : Udp.checksumField s ≡ checksumOf from to source target (length s) d
-  pub summed : Udp.checksumField s ≡ 0 → ⊥
+  pub checksum-is : Udp.checksumField s ≡ checksumOf from to source target d
+  pub not-zero : Udp.checksumField s ≡ 0 → ⊥
   pub sums : SumsRight (covered 17 from to s)
   pub carried : drop 8 s ≡ d
 
 module _ (from to : List ℕ) (four : length from ≡ 4) (four′ : length to ≡ 4) (source target : ℕ) (d : List ℕ) where
-  stored : Udp.checksumField (datagram from to source target d) ≡ checksumOf from to source target (8 + length d) d
+  stored : Udp.checksumField (datagram from to source target d) ≡ checksumOf from to source target d
   unfolding datagram
   stored = omega arith
 
@@ -37,8 +37,8 @@ module _ (from to : List ℕ) (four : length from ≡ 4) (four′ : length to �
         source-port = omega arith;
         target-port = omega arith;
         length-is = omega arith;
-        checksum-is = stored ∙ ap (λ (n : ℕ). checksumOf from to source target n d) (sym (length-datagram from to source target d));
-        summed = λ e. checksum-some from to source target (8 + length d) d (sym stored ∙ e);
+        checksum-is = stored;
+        not-zero = λ e. checksum-some from to source target d (sym stored ∙ e);
         sums = datagram-sums-right from to four four′ source target d;
         carried = data-behind;
       }

@@ -3,7 +3,9 @@ ghost use mathlib.Core.Path.{_≡_};
 ghost use lib.ListN.{length};
 ghost use Rattle.record.specs.Answer.{Wrote};
 ghost use Rattle.datagrams.specs.Builders.{makeUdpPayload};
-ghost use Rattle.wire.specs.Rfc768.{headerWith, checksumOf, transmitted as Rfc768·transmitted};
+ghost use Prim.Native.Nat.{_+_, _-_};
+ghost use Rattle.sums.specs.Rfc1071.{total, fold};
+ghost use Rattle.wire.specs.Rfc768.{datagramHeader, pseudoHeader, transmitted as Rfc768·transmitted};
 use base::put;
 use record::Verdict;
 use sums::sum;
@@ -33,28 +35,28 @@ pub fn make_udp_payload(
         return Verdict::NoRoom(HEADER + len);
     }
     let total = (HEADER + len) as u16;
-    let header = udp_header(src_ip, src_port, dst_ip, dst_port, total, data);
+    let front = front_sum(src_ip, src_port, dst_ip, dst_port, total);
+    let header = udp_header(src_port, dst_port, total, sum(front, data));
     put(out, 0, &header);
     put(out, HEADER, data);
     Verdict::Reply(HEADER + len)
 }
 
-// Its header, where it has `len` bytes. The sum goes on from piece to piece, so that nothing is copied
-// behind the pseudo-header.
-pub fn udp_header(
-    src_ip: [u8; 4],
-    src_port: u16,
-    dst_ip: [u8; 4],
-    dst_port: u16,
-    len: u16,
-    data: &[u8],
-) -> [u8; 8]
-    ensures { λ r. ⌜ r ≡ headerWith (checksumOf «src_ip» «dst_ip» «src_port» «dst_port» len (now («data» .entry))) «src_port» «dst_port» len ⌝ }
+// The sum of what stands before the data of a datagram of `len` bytes: the pseudo-header, and the header
+// with its checksum 0. It goes on over the data, wherever that lies, so that nothing is copied.
+pub fn front_sum(src_ip: [u8; 4], src_port: u16, dst_ip: [u8; 4], dst_port: u16, len: u16) -> u16
+    ensures { λ r. ⌜ r ≡ fold (total (pseudoHeader «src_ip» «dst_ip» 17 len) + total (datagramHeader 0 «src_port» «dst_port» len)) ⌝ }
 {
     let pseudo = pseudo_header(src_ip, dst_ip, ipv4::UDP, len);
     let blank = header_with(0, src_port, dst_port, len);
-    let computed = 65535 - sum(sum(sum(0, &pseudo), &blank), data);
-    header_with(transmitted(computed), src_port, dst_port, len)
+    sum(sum(0, &pseudo), &blank)
+}
+
+// The header, with the checksum that the sum over all of this leads to.
+pub fn udp_header(src_port: u16, dst_port: u16, len: u16, sum_of_all: u16) -> [u8; 8]
+    ensures { λ r. ⌜ r ≡ datagramHeader (Rfc768·transmitted (65535 - «sum_of_all»)) «src_port» «dst_port» len ⌝ }
+{
+    header_with(transmitted(65535 - sum_of_all), src_port, dst_port, len)
 }
 
 // 0 says that there is no checksum, so a computed 0 is sent as all ones.
@@ -68,7 +70,7 @@ fn transmitted(computed: u16) -> u16
 }
 
 fn header_with(csum: u16, src_port: u16, dst_port: u16, len: u16) -> [u8; 8]
-    ensures { λ r. ⌜ r ≡ headerWith csum «src_port» «dst_port» len ⌝ }
+    ensures { λ r. ⌜ r ≡ datagramHeader csum «src_port» «dst_port» len ⌝ }
 {
     [
         (src_port / 256) as u8,

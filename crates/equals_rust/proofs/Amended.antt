@@ -25,7 +25,7 @@ use Rattle.record.specs.Guest.{Sized}
 use Rattle.record.specs.Network.{broadcastOf}
 use Rattle.record.specs.declared.guest.Guest.{Guest}
 use Rattle.record.specs.declared.network.Network.{Network}
-use Rattle.wire.specs.Rfc768.{sourcePort, targetPort, checksumField, headerWith, checksumOf, datagram}
+use Rattle.wire.specs.Rfc768.{sourcePort, targetPort, checksumField, datagramHeader, checksumOf, datagram}
 use Rattle.wire.specs.Rfc791.{sourceOf, targetOf}
 use Rattle.wire.specs.Rfc894.{body, sourceMac}
 use Rattle.equals_rust.specs.Amended.{carriesUdp, serverToClient, turned, summed, amended}
@@ -71,10 +71,10 @@ module _ (from to datagram : List ℕ) where
 
   -- there they are RFC 768's checksum
   pub summed-there : 8 ≤ length datagram
-      → part (summed from to datagram) 6 2 ≡ be16 (checksumOf from to (sourcePort datagram) (targetPort datagram) (length datagram) (drop 8 datagram))
+      → part (summed from to datagram) 6 2 ≡ be16 (checksumOf from to (sourcePort datagram) (targetPort datagram) (drop 8 datagram))
   unfolding summed
   summed-there h =
-      let two = be16 (checksumOf from to (sourcePort datagram) (targetPort datagram) (length datagram) (drop 8 datagram)) in
+      let two = be16 (checksumOf from to (sourcePort datagram) (targetPort datagram) (drop 8 datagram)) in
       let put-there : summed from to datagram ≡ put 6 two datagram = fits 6 two datagram h in
       rw put-there (part-put 6 two datagram h)
 
@@ -152,18 +152,17 @@ module _ (frame : List ℕ) where
         rw (datagram-there, ports)
         (ap (take 4) (fits 6 _ (serverToClient ++ drop 4 (drop 34 frame)) (omega (arith, room, length-drop 4 (drop 34 frame)))))
 
-    pub checksum-there : part (amended frame) 40 2 ≡ be16 (checksumOf (sourceOf (body frame)) (targetOf (body frame)) 67 68 (length (drop 34 frame)) (drop 42 frame))
+    pub udp-checksum-there : part (amended frame) 40 2 ≡ be16 (checksumOf (sourceOf (body frame)) (targetOf (body frame)) 67 68 (drop 42 frame))
     unfolding its-datagram
-    checksum-there =
+    udp-checksum-there =
         let from = sourceOf (body frame) in
         let to = targetOf (body frame) in
         let source : sourcePort (turned (drop 34 frame)) ≡ 67 = ap sourcePort ports in
         let target : targetPort (turned (drop 34 frame)) ≡ 68 = ap targetPort ports in
-        let long = turned-as-long (drop 34 frame) in
         let behind : drop 8 (turned (drop 34 frame)) ≡ drop 42 frame = ap (drop 8) ports ∙ drop-drop 4 4 (drop 34 frame) ∙ drop-drop 8 34 frame in
         ap (take 2) (sym (drop-drop 6 34 (amended frame)) ∙ ap (drop 6) datagram-there)
-        ∙ summed-there from to (turned (drop 34 frame)) (omega (arith, room, long))
-        ∙ (λ i. be16 (checksumOf from to (source i) (target i) (long i) (behind i)))
+        ∙ summed-there from to (turned (drop 34 frame)) (omega (arith, room, turned-as-long (drop 34 frame)))
+        ∙ (λ i. be16 (checksumOf from to (source i) (target i) (behind i)))
 
 -- no ARP packet is UDP, and no ping
 pub arp-other : (net : Network) (frame : List ℕ) → length (net .gateway) ≡ 4 → carriesUdp (arpReply net frame) ≡ false
@@ -176,7 +175,7 @@ icmp-other f = rw (f .type, f .packet .protocol-is)
 
 -- the Rust's datagram: its checksum is 0
 unfoldable pub unsummed : (source target : ℕ) (body : List ℕ) → List ℕ
-unsummed source target body = headerWith 0 source target (8 + length body) ++ body
+unsummed source target body = datagramHeader 0 source target (8 + length body) ++ body
 
 module _ (source target : ℕ) (d : List ℕ) where
   pub length-unsummed : length (unsummed source target d) ≡ 8 + length d
@@ -189,9 +188,9 @@ module _ (source target : ℕ) (d : List ℕ) where
   unsummed-summed from to =
       let from-port : sourcePort (unsummed source target d) ≡ source = omega arith in
       let to-port : targetPort (unsummed source target d) ≡ target = omega arith in
-      let two : List ℕ = be16 (checksumOf from to (sourcePort (unsummed source target d)) (targetPort (unsummed source target d)) (length (unsummed source target d)) d) in
+      let two : List ℕ = be16 (checksumOf from to (sourcePort (unsummed source target d)) (targetPort (unsummed source target d)) d) in
       fits 6 two (unsummed source target d) (omega (arith, length-unsummed))
-      ∙ (λ i. headerWith (checksumOf from to (from-port i) (to-port i) (length-unsummed i) d) source target (8 + length d) ++ d)
+      ∙ (λ i. datagramHeader (checksumOf from to (from-port i) (to-port i) d) source target (8 + length d) ++ d)
 
 -- from 68 to 67, turned
 pub unsummed-turned : (d : List ℕ) → turned (unsummed 68 67 d) ≡ unsummed 67 68 d

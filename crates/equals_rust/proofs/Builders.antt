@@ -1,4 +1,4 @@
--- What the Rust's builders give: the frames and datagrams of the RFCs, or a length that is cut.
+-- What the Rust's builders give: the frames of the RFCs, datagrams without a checksum, or a length that is cut.
 use Prim.Native.Nat.{ℕ, _+_, _-_, _%_, _≤_, _<_}
 use mathlib.Core.Path.{_≡_, refl, subst, _∙_}
 use mathlib.Core.List.{List, [], _∷_, _++_}
@@ -14,7 +14,6 @@ use Rattle.wire.specs.Rfc894.{ethernet}
 use Rattle.record.specs.Network.{gatewayMac}
 use Rattle.published.specs.Rust.{Run, gives, cuts, _>>=_, Slice, lenOf, zeros, store, copy, copyFrom, u16ToBe, wrappingAddU16}
 use Rattle.published.specs.Frames.{Counted, «HOST_MAC», «ETHERTYPE_IP», «make_ip_frame», «make_udp_payload»}
-use Rattle.sums.specs.Rfc1071.{checksum}
 use Rattle.equals_rust.specs.Types.{Bytes}
 use Rattle.equals_rust.proofs.Amended.{unsummed}
 use Rattle.equals_rust.proofs.Operations.{copy-zeros, copy-end, copy-rest, bytes-append}

@@ -9,7 +9,7 @@ use Rattle.base.specs.Bytes.{part}
 use Rattle.published.specs.Rust.{gives, panics, cuts, unfinished}
 use Rattle.published.specs.Runs.{Row, starts, sends, sums, types, frames, datagrams, segments, replies, arp, icmp, dhcpReplies, udpPayloads}
 use Rattle.sums.specs.Rfc1071.{words, sum, total, fold, checksum}
-use Rattle.wire.specs.Rfc768.{pseudoHeader, transmitted, checksumOf}
+use Rattle.wire.specs.Rfc768.{pseudoHeader, covered, transmitted, checksumOf}
 use Rattle.equals_rust.specs.Amended.{carriesUdp, turned, summed, amended}
 
 -- what `send` pushed in a row, from a backend that had nothing pending
@@ -44,7 +44,7 @@ d0-amended = refl
 
 pub d0-summed : each (λ (frame : List ℕ). part (amended frame) 40 2) (pushedIn dhcpReplies)
     ≡ (0x6c ∷ 0xfc ∷ []) ∷ (0x69 ∷ 0xfc ∷ []) ∷ (0x69 ∷ 0xfc ∷ []) ∷ (0x6c ∷ 0xfc ∷ []) ∷ (0x6c ∷ 0xfc ∷ []) ∷ (0x6c ∷ 0xfc ∷ []) ∷ (0xe9 ∷ 0x9d ∷ []) ∷ (0x25 ∷ 0xd5 ∷ []) ∷ []
-unfolding amended carriesUdp turned summed putIfFits put checksumOf transmitted pseudoHeader checksum total words sum fold
+unfolding amended carriesUdp turned summed putIfFits put checksumOf transmitted covered pseudoHeader checksum total words sum fold
 d0-summed = refl
 
 pub others-stay : each amended (pushedIn arp ++ pushedIn icmp) ≡ pushedIn arp ++ pushedIn icmp
@@ -87,5 +87,5 @@ pub datagrams-summed : each (λ (built : List ℕ). take 8 (summed (10 ∷ 0 ∷
     ∷ (0x00 ∷ 0x00 ∷ 0xff ∷ 0xff ∷ 0x00 ∷ 0x0a ∷ 0x15 ∷ 0xf7 ∷ [])
     ∷ (0xff ∷ 0xff ∷ 0x00 ∷ 0x00 ∷ 0x01 ∷ 0x34 ∷ 0xe5 ∷ 0x75 ∷ [])
     ∷ []
-unfolding summed putIfFits put checksumOf transmitted pseudoHeader checksum total words sum fold
+unfolding summed putIfFits put checksumOf transmitted covered pseudoHeader checksum total words sum fold
 datagrams-summed = refl

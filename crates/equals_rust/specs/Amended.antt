@@ -7,7 +7,7 @@ use mathlib.Core.List.{List, [], _∷_, _++_}
 use mathlib.Core.Logic.{_⊎_}
 use mathlib.Core.Path.{_≡_}
 use lib.Dec.{eqb}
-use lib.ListN.{length, take, drop}
+use lib.ListN.{take, drop}
 use Rattle.base.specs.Buffer.{putIfFits}
 use Rattle.base.specs.Bytes.{be16}
 use Rattle.record.specs.Answer.{Outcome}
@@ -28,9 +28,9 @@ serverToClient = 0x00 ∷ 0x43 ∷ 0x00 ∷ 0x44 ∷ []
 unfoldable pub turned : (datagram : List ℕ) → List ℕ
 turned datagram = putIfFits 0 serverToClient datagram
 
--- a datagram with the checksum of RFC 768 in its bytes 6 and 7: between these addresses and its own ports, of its own length, over its own data
+-- a datagram with the checksum of RFC 768 in its bytes 6 and 7: between these addresses and its own ports, over its own data
 unfoldable pub summed : (from to datagram : List ℕ) → List ℕ
-summed from to datagram = putIfFits 6 (be16 (checksumOf from to (sourcePort datagram) (targetPort datagram) (length datagram) (drop 8 datagram))) datagram
+summed from to datagram = putIfFits 6 (be16 (checksumOf from to (sourcePort datagram) (targetPort datagram) (drop 8 datagram))) datagram
 
 -- of a UDP frame the datagram, with these ports and then the checksum; every other frame as it is
 unfoldable pub amended : (frame : List ℕ) → List ℕ

@@ -1,9 +1,9 @@
 -- The frame that the two calls leave in the buffer where they answer 1.
-use Prim.Native.Nat.{ℕ, _+_, _≤_}
-use mathlib.Core.Path.{_≡_, ap, sym, _∙_}
+use Prim.Native.Nat.{ℕ, _+_}
+use mathlib.Core.Path.{_≡_, ap, _∙_}
 use mathlib.Core.List.{List, [], _∷_}
 use native.Mathlib.Omega.{arith}
-use lib.ListN.{length, take, drop, length-take, length-drop}
+use lib.ListN.{length, take, length-take, length-drop}
 use Rattle.base.specs.Bytes.{part}
 use Rattle.sums.specs.Rfc1071.{SumsRight}
 use Rattle.record.specs.Answer.{paper, Meets, spending}

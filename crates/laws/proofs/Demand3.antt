@@ -105,13 +105,13 @@ module _ (guest : Guest) (mac source target before after : List ℕ) (answer : A
         → Derives (take n after) (otherDerivation n)
     ip-frame-in-place-derived len m = other-derived _ n source target protocol (part before 34 len) (made-in-place protocol len m) no-1 no-6 no-17
 
-  module _ (from to : ℕ) (d before′ after′ : List ℕ) (v : Verdict) (k : ℕ) (no-67-68 : from ≡ 67 → to ≡ 68 → ⊥) (no-68-67 : from ≡ 68 → to ≡ 67 → ⊥)
-      (w : Wrote (makeUdpPayload source target from to d (length before′)) before′ after′ v) (one′ : paper v ≡ 1 ∷ k ∷ []) where
-    its-datagram : take k after′ ≡ datagram source target from to d
-    its-datagram = datagram-in-buffer before′ after′ v k source target from to d one′ w .front
+  module _ (sport dport : ℕ) (d before′ after′ : List ℕ) (v : Verdict) (k : ℕ) (no-67-68 : sport ≡ 67 → dport ≡ 68 → ⊥) (no-68-67 : sport ≡ 68 → dport ≡ 67 → ⊥)
+      (w : Wrote (makeUdpPayload source target sport dport d (length before′)) before′ after′ v) (one′ : paper v ≡ 1 ∷ k ∷ []) where
+    its-datagram : take k after′ ≡ datagram source target sport dport d
+    its-datagram = datagram-in-buffer before′ after′ v k source target sport dport d one′ w .front
 
-    as-udp : Packet (take n after) n 17 source target (datagram source target from to d) → Derives (take n after) (udpDerivation n) × Summed (body (take n after))
-    as-udp p = (udp-derived _ n source target four four′ from to d p no-67-68 no-68-67, datagram-summed _ n source target four four′ from to d p)
+    as-udp : Packet (take n after) n 17 source target (datagram source target sport dport d) → Derives (take n after) (udpDerivation n) × Summed (body (take n after))
+    as-udp p = (udp-derived _ n source target four four′ sport dport d p no-67-68 no-68-67, datagram-summed _ n source target four four′ sport dport d p)
 
     -- Every frame of `make_ip_frame` around a datagram of `make_udp_payload` between the same addresses, whose `k` bytes are the first of another buffer, with any ports but 67 and 68 in either
     -- order: UDP, by the summed case.

@@ -80,7 +80,7 @@ module _ (frame : List ℕ) (n : ℕ) (source target : List ℕ) where
 
     pub datagram-summed : Summed (body frame)
     unfolding covered
-    datagram-summed = record { not-zero = its-fields .summed; sums = rw (p .pseudo-is, p .payload-is) (datagram-reads-back source target four four′ sport dport d .sums) }
+    datagram-summed = record { not-zero = its-fields .not-zero; sums = rw (p .pseudo-is, p .payload-is) (datagram-reads-back source target four four′ sport dport d .sums) }
 
     pub datagram-derived : UDP (body frame)
     datagram-derived =

@@ -9,7 +9,7 @@ use Rattle.options.specs.Rfc2132.{walk, walkFrom}
 use Rattle.record.specs.Answer.{Meets, Outcome, paper}
 use Rattle.record.specs.declared.answer.Answer.{Answer}
 use Rattle.record.specs.declared.guest.Guest.{Guest}
-use Rattle.wire.specs.Rfc768.{pseudoHeader, transmitted, checksumOf, datagram}
+use Rattle.wire.specs.Rfc768.{pseudoHeader, covered, transmitted, checksumOf, datagram}
 use Rattle.wire.specs.Rfc791.{header, headerWith}
 use Rattle.frames.specs.Frames.{ipFrame}
 use Rattle.wire.specs.Rfc792.{echo, echoWith}
@@ -31,7 +31,7 @@ replies-sum-right type = datagram-reads-back (0x0a ∷ 0x00 ∷ 0x02 ∷ 0x02 �
 
 -- of the offer and the acknowledgement in the table these are, as reckoned elsewhere
 pub in-the-rows : (itsChecksum 2 ≡ 0x6c ∷ 0xfc ∷ []) × (itsChecksum 5 ≡ 0x69 ∷ 0xfc ∷ [])
-unfolding checksumOf transmitted pseudoHeader checksum total words sum fold
+unfolding checksumOf transmitted covered pseudoHeader checksum total words sum fold
 in-the-rows = (refl, refl)
 
 pub unmarked-hold : All unmarked

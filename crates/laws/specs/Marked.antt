@@ -89,7 +89,7 @@ behindChecksum type =
 
 -- D0's last two bytes: the checksum of the reply at hand, by RFC 768 from 10.0.2.2 to 10.0.2.255. That with them the datagram sums right, and that they aren't 0, is proved (`replies-sum-right`).
 abbrev pub itsChecksum : (type : ℕ) → List ℕ
-itsChecksum type = be16 (checksumOf (0x0a ∷ 0x00 ∷ 0x02 ∷ 0x02 ∷ []) (0x0a ∷ 0x00 ∷ 0x02 ∷ 0xff ∷ []) 0x43 0x44 0x134 (behindChecksum type))
+itsChecksum type = be16 (checksumOf (0x0a ∷ 0x00 ∷ 0x02 ∷ 0x02 ∷ []) (0x0a ∷ 0x00 ∷ 0x02 ∷ 0xff ∷ []) 0x43 0x44 (behindChecksum type))
 
 abbrev pub dhcpReply : (type : ℕ) → List ℕ
 dhcpReply type = beforeChecksum ++ itsChecksum type ++ behindChecksum type

@@ -63,7 +63,7 @@ echoPlaces guest frame =
 -- the checksum of a DHCP reply's datagram
 abbrev pub datagramSumOf : Guest → (xid type : ℕ) → List ℕ
 datagramSumOf guest xid type =
-    be16 (checksumOf (guest .network .gateway) (broadcastOf (guest .network)) 67 68 308 (reply (guest .network) (guest .mac) xid type))
+    be16 (checksumOf (guest .network .gateway) (broadcastOf (guest .network)) 67 68 (reply (guest .network) (guest .mac) xid type))
 
 -- a DHCP reply of this type
 abbrev pub dhcpPlaces : Guest → (xid type : ℕ) → List Place

@@ -116,12 +116,7 @@ total-piece s at end n k e f h =
 pub fold-more : (start k : ℕ) (s t : List ℕ) → length s ≡ k * 2 → fold (fold (start + total s) + total t) ≡ fold (start + total (s ++ t))
 fold-more start k s t h = fold-fold (start + total s) (total t) ∙ ap fold (omega (arith, total-append k s t h))
 
--- three pieces summed one after the other, with no copy that joins them
-pub checksum-three : (p h d : List ℕ) (i j : ℕ) → length p ≡ i * 2 → length h ≡ j * 2 → 65535 - fold (fold (fold (0 + total p) + total h) + total d) ≡ checksum (p ++ (h ++ d))
-unfolding checksum
-checksum-three p h d i j ep eh = ap (λ (n : ℕ). 65535 - n) (fold-more (fold (0 + total p)) j h d eh ∙ fold-more 0 i p (h ++ d) ep ∙ ap fold (zero-add _))
-
--- four
+-- four pieces summed one after the other, with no copy that joins them
 pub checksum-pieces : (p h o d : List ℕ) (i j k : ℕ) → length p ≡ i * 2 → length h ≡ j * 2 → length o ≡ k * 2
     → 65535 - fold (fold (fold (fold (0 + total p) + total h) + total o) + total d) ≡ checksum (p ++ (h ++ o ++ d))
 unfolding checksum

@@ -34,7 +34,9 @@ returns-2 c =
     let headed = c .before .before in
     let header = headed .before .before .before .before in
     let made = header .before .before .before in
-    let message = made .before .before .before .before .before in
+    let summed = made .before in
+    let front = summed .before .before .before in
+    let message = front .before .before .before in
     let target = message .before .before in
     let tests = target .before .before in
     let start = tests .before .before in
@@ -42,13 +44,13 @@ returns-2 c =
     let four = net-four start in
     let six : length (a .mac) ≡ 6 = omega (arith, start .good) in
     let six′ : length (a .dst-mac) ≡ 6 = omega (arith, start .good) in
-    frame-put (a .net) (a .mac) (a .id) (a .dst-mac) (a .xid) (a .kind) four six six′ (a .out .now) _ _ _ _ _ _ (tests .if1 .left) (target .broadcast .ensures) (message .put-reply .ensures) refl
-    (made .udp-header .ensures) (header .put .ensures) (headed .put-headers .ensures)
+    frame-put (a .net) (a .mac) (a .id) (a .dst-mac) (a .xid) (a .kind) four six six′ (a .out .now) _ _ _ _ _ _ _ _ (tests .if1 .left) (target .broadcast .ensures) (message .put-reply .ensures) refl
+    (front .front-sum .ensures) (summed .sum .ensures) (made .udp-header .ensures) (header .put .ensures) (headed .put-headers .ensures)
 
 pub put-dhcp-reply-spec : {M : Type 1} → statement M
 put-dhcp-reply-spec =
     tie.close
     (tie.spec returns (λ c κs. search needs) (λ c. search needs) (λ c. search needs) (λ c. search needs)
-    (λ c κs. search needs) (λ c. search needs) (λ c. search needs) (λ c. search needs) (λ c. search needs)
-    (λ c. search needs) (λ c κs. search needs) (λ c. search needs) (λ c κs. search needs) (λ c. search needs)
-    (λ c. search needs) (λ c κs. search needs) (λ c. search needs) returns-2)
+    (λ c κs. search needs) (λ c. search needs) (λ c. search needs) (λ c κs. search needs) (λ c. search needs)
+    (λ c. search needs) (λ c. search needs) (λ c κs. search needs) (λ c κs. search needs) (λ c. search needs)
+    (λ c κs. search needs) (λ c. search needs) (λ c. search needs) (λ c κs. search needs) (λ c. search needs) returns-2)
