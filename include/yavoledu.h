@@ -129,8 +129,8 @@ uint32_t yavoledu_make_ip_frame(uint16_t *id, const uint8_t dst_mac[6], const ui
 /* A UDP datagram around at most 65,527 bytes of data: 8 bytes and the data. Its checksum is that of RFC 768,
  * over the pseudo-header (both addresses, 0, 17, the length), the header and the data. Where it comes to 0,
  * 0xffff is written: a checksum of 0, which says that there is none, is never sent. The addresses are no part
- * of the datagram. They have to be those of the IPv4 header around it, or else its receiver finds the checksum
- * wrong. 6, with data_len, is decided before 5, with 8 bytes more than data_len.
+ * of the datagram. They have to be those of the IPv4 header around it, or else its receiver finds the
+ * checksum wrong. 6, with data_len, is decided before 5, with 8 bytes more than data_len.
  * Before document 02's request 6/13 it took no addresses and wrote 0: what was compiled with that header has
  * to be compiled anew. */
 uint32_t yavoledu_make_udp_payload(const uint8_t src_ip[4], uint16_t src_port, const uint8_t dst_ip[4],

@@ -184,7 +184,7 @@ fn a_udp_checksum_that_comes_to_0_is_sent_as_ffff() {
 
 #[test]
 fn every_checksum_is_written_and_0_is_not_among_them() {
-    // By the port each from 1 to 0xffff comes once, 0xffff in 0's place, and that of the ports 0 and 65,535 twice.
+    // By the port each from 1 to 0xffff comes once, 0xffff in 0's place, and that of 0 and 65,535 twice.
     let mut seen = vec![0; 65_536];
     for port in 0..=u16::MAX {
         let mut out = [0; 8];

@@ -153,9 +153,9 @@ pub fn udp(from: u16, to: u16, data: &[u8]) -> Vec<u8> {
     .concat()
 }
 
-/// A UDP datagram with its checksum. RFC 768: "the 16-bit one's complement of the one's complement sum of a pseudo
-/// header of information from the IP header, the UDP header, and the data"; "If the computed checksum is zero, it
-/// is transmitted as all ones".
+/// A UDP datagram with its checksum. RFC 768: "the 16-bit one's complement of the one's complement sum of a
+/// pseudo header of information from the IP header, the UDP header, and the data"; "If the computed checksum
+/// is zero, it is transmitted as all ones".
 pub fn summed_udp(from: ([u8; 4], u16), to: ([u8; 4], u16), data: &[u8]) -> Vec<u8> {
     let mut datagram = udp(from.1, to.1, data);
     let sum = match checksum(&with_pseudo_header(UDP, from.0, to.0, &datagram)) {
@@ -166,8 +166,8 @@ pub fn summed_udp(from: ([u8; 4], u16), to: ([u8; 4], u16), data: &[u8]) -> Vec<
     datagram
 }
 
-/// The words of a datagram and its pseudo-header, the checksum among them, added up one by one, and the carries
-/// added to them. Where the checksum is right, this is 0xffff.
+/// The words of a datagram and its pseudo-header, the checksum among them, added up one by one, and the
+/// carries added to them. Where the checksum is right, this is 0xffff.
 pub fn sum_of_udp(from: [u8; 4], to: [u8; 4], datagram: &[u8]) -> u64 {
     let pseudo_header = [&from[..], &to, &[0, 17], &datagram[4..6]].concat();
     let mut sum = 0_u64;

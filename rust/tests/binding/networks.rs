@@ -109,8 +109,8 @@ const OPTION_1: [usize; 2] = [42 + 257, 42 + 261];
 const OPTION_3: [usize; 2] = [42 + 263, 42 + 267];
 const OPTION_6: [usize; 2] = [42 + 269, 42 + 273];
 
-/// A part of the network is another in each byte: then each byte of these fields of the reply is another, and no
-/// other byte. The checksums of the IPv4 header and of the datagram are left out.
+/// A part of the network is another in each byte: then each byte of these fields of the reply is another, and
+/// no other byte. The checksums of the IPv4 header and of the datagram are left out.
 fn assert_moves(before: Network, after: Network, fields: &[[usize; 2]]) {
     let reply = |network| {
         let guest = Guest {

@@ -132,7 +132,7 @@ fn d0_d1_an_offer() {
     let mut guest = new_guest(GUEST_MAC);
     let reply = reply_to(&mut guest, &from_dhcp_client(&dhcp_message(&DISCOVER)));
     assert_eq!(reply[24..26], [0x20, 0xa4]);
-    // D0 as document 02 amends it: 2/13 its ports, 6/13 its last two bytes, which are the checksum of this reply
+    // D0 as document 02 amends it: 2/13 its ports, 6/13 its last two bytes, which are this reply's checksum
     assert_eq!(reply[34..40], bytes("004300440134"));
     assert_eq!(reply, dhcp_reply(&new_guest(GUEST_MAC), XID, 2));
     assert_eq!(

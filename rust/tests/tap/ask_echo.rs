@@ -1,9 +1,9 @@
-//! A UDP socket of the operating system, for `rust/tap-namespace`: it sends its standard input as one datagram
-//! and prints what comes back.
+//! A UDP socket of the operating system, for `rust/tap-namespace` and for the guests of `rust/real-guest`: it
+//! sends its standard input as one datagram and prints what comes back.
 //!
 //!     ask_echo FROM TO
 //!
-//! Each is an address and a port, as 10.0.2.15:0, where any port will do, and 192.0.2.1:7. It prints one line:
+//! Each is an address and a port, as 10.0.2.15:0, where any port will do, and 192.0.2.1:7. It prints a line:
 //!
 //!     5 bytes come back        the data that was sent, from TO
 //!     5 other bytes come back

@@ -298,6 +298,7 @@ check_client() { # PROGRAM NETWORK NAME
     check_replies_as_read
     check_ids "$guest_mac"
     check_replies
+    check_udp_sums
 }
 
 # The clients and the sockets ($parts), all at once. What each leaves and prints is in a folder of its name.

@@ -1,5 +1,5 @@
 # The self-test of rust/tap-namespace, which reads this file: faults are put around the gateway
-# (wrong_tap.rs), one at a time, and the checks of the DHCP clients and of the sockets have to fail under them.
+# (wrong_tap.rs), one at a time, and the checks of the DHCP clients and the sockets have to fail under them.
 
 at_once=3 # faults
 
@@ -16,10 +16,10 @@ ports 67 to 67: takes the lease,; behind each of its messages
 ports 68 to 68: behind each of its messages
 target: behind each of its messages
 header sum: tcpdump finds no wrong checksum
-UDP sum: takes the lease,; datagrams of; 'zero' comes back; the kernel finds no wrong UDP checksum; tcpdump finds no wrong checksum
+UDP sum: takes the lease,; datagrams of; 'zero' comes back; the kernel finds no wrong; tcpdump finds no wrong
 UDP sum without the pseudo-header: takes the lease,; datagrams of; behind the ports our datagrams
 UDP sum for another address: takes the lease,; datagrams of; behind the ports our datagrams
-UDP sum 0: and a right one, not 0
+UDP sum 0: tcpdump finds a right checksum
 UDP sum that comes to 0: that is ffff on the wire
 no echo: N datagrams to port 7
 echo's data: datagrams of; behind the ports our datagrams

@@ -1,6 +1,6 @@
-# UDP sockets of the guest's side, for rust/tap-namespace, which reads this file. The example echoes what is sent
-# to port 7 of any address, in datagrams that the library has built; the kernel verifies their checksums, since
-# a TAP device without offloads leaves that to it. ask_echo is the socket.
+# UDP sockets of the guest's side, for rust/tap-namespace, which reads this file. The example echoes what is
+# sent to port 7 of any address, in datagrams that the library has built. The kernel verifies their checksums,
+# since a TAP device without offloads leaves that to it. ask_echo is the socket.
 
 far=192.0.2.1 # nobody's, by RFC 5737: the default route leads there
 echo_sizes=(0 1 2 3 4 57 1471 1472 8999 $((largest_data - 1)) "$largest_data")
@@ -36,8 +36,8 @@ wrong_sums() {
 zero_port() {
     local bytes sum
     IFS=. read -ra bytes <<<"$guest.$gateway"
-    sum=$((17 + 12 + 12 + 7 + 0x7a65 + 0x726f)) # 'ze', 'ro'
-    sum=$((sum + 256 * (bytes[0] + bytes[2] + bytes[4] + bytes[6]) + bytes[1] + bytes[3] + bytes[5] + bytes[7]))
+    sum=$((256 * (bytes[0] + bytes[2] + bytes[4] + bytes[6]) + bytes[1] + bytes[3] + bytes[5] + bytes[7]))
+    sum=$((sum + 17 + 12 + 12 + 7 + 0x7a65 + 0x726f)) # 'ze', 'ro'
     echo $((65535 - sum % 65535))
 }
 
@@ -47,23 +47,23 @@ check_zero() {
     same "'zero' comes back from $gateway to port $port, with a checksum that comes to 0" \
         "$(echo -n zero | "$asker" "$guest:$port" "$gateway:7")" '4 bytes come back'
     same "that is ffff on the wire, from the kernel as from us" \
-        "$(captured "udp port 7 and port $port" -x | sed -nE 's/.*0x0010: ( *[0-9a-f]{4}){5} ([0-9a-f]{4}) .*/\2/p')" \
-        "$(printf '%s\n' ffff ffff)"
+        "$(behind_four_bytes "udp port 7 and port $port" | grep .)" \
+        "$(printf '000cffff7a65726f\n%.0s' kernel us)" # the length, the checksum, 'zero'
 }
 
 # With source and target exchanged a datagram's sum is the same: so an echo is the kernel's datagram byte for
 # byte behind the ports, its checksum among them.
-check_echoes_in_capture() {
-    local asked
-    asked=$(count "$echo_request")
-    same "$asked datagrams to port 7, as many echoes" "$(count "$echo_reply")" "$asked"
-    same "what is echoed is what the capture has, with MACs, ports and lengths" "$(grep '^echo ' "$work/printed")" \
-        "$(echoes_in_capture)"
+check_echoes_in_capture() { # HOW MANY
+    same "$1 datagrams to port 7, as many echoes" \
+        "$(count "$echo_request") and $(count "$echo_reply")" "$1 and $1"
+    same "what is echoed is what the capture has, with MACs, ports and lengths" \
+        "$(grep '^echo ' "$work/printed")" "$(echoes_in_capture)"
     same "behind the ports our datagrams are the kernel's, byte for byte, with its checksums" \
         "$(behind_four_bytes "$echo_reply" | cksum)" "$(behind_four_bytes "$echo_request" | cksum)"
     same "the gateway sends echoes and answers to ARP, and nothing else" \
         "$(captured "$from_gateway and not ($echo_reply or $arp_reply)")" ""
     check_sums
+    check_udp_sums
 }
 
 check_sockets() { # PROGRAM NETWORK
@@ -78,7 +78,7 @@ check_sockets() { # PROGRAM NETWORK
     same "the kernel finds no wrong UDP checksum" "$(wrong_sums)" 0
     check_end 0 'dns 0, relay 0, tcp 0' 1
     check_ids "$guest_mac"
-    check_echoes_in_capture
+    check_echoes_in_capture $((${#echo_sizes[@]} + 1))
 }
 
 # --- wrong checksums, by wrong_tap.rs
@@ -100,8 +100,8 @@ check_sum_of_0() {
     local before
     FAULT='UDP sum 0' start_gateway "$wrong_program"
     before=$(wrong_sums)
-    same "UDP sum 0: Linux takes ${wrong_sizes[*]} bytes without a checksum" "$(ask_sizes "${wrong_sizes[@]}")" \
-        "$(come_back "${wrong_sizes[@]}")"
+    same "UDP sum 0: Linux takes ${wrong_sizes[*]} bytes without a checksum" \
+        "$(ask_sizes "${wrong_sizes[@]}")" "$(come_back "${wrong_sizes[@]}")"
     same "UDP sum 0: the kernel counts none" "$(($(wrong_sums) - before))" 0
     stop "$serving"
 }

@@ -4,8 +4,8 @@
 //!     FAULT=name wrong_tap NAME [GATEWAY GUEST MASK [LEASE]]
 //!
 //! The source of the example stands as it is. It takes `yavoledu` for this file, and so serves the
-//! [`Guest`] below, which asks the proved one and then spoils what comes of it; so it is with the datagrams of
-//! its echo.
+//! [`Guest`] below, which asks the proved one and then spoils what comes of it. The datagrams of the echo are
+//! spoiled in the same way.
 
 extern crate self as yavoledu;
 extern crate yavoledu as proved;
