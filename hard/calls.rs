@@ -3,6 +3,7 @@
 use std::sync::atomic::{AtomicPtr, Ordering};
 
 use crate::cases::Call;
+use crate::document_01;
 use crate::lending::{Lender, Slot};
 use crate::library::*;
 use crate::making_02;
@@ -347,6 +348,12 @@ pub fn make(
         (number, values) == expected,
         "another answer than 1, 5 or 6 has to be",
     )?;
+    if let (Call::Udp { src, dst }, REPLY) = (call, number) {
+        asserted(
+            reply == document_01::datagram(*src, *dst, payload),
+            "another datagram than RFC 768's",
+        )?;
+    }
     let spends = number == REPLY && call.takes_id();
     let id = before.id.wrapping_add(u16::from(spends));
     asserted(

@@ -46,6 +46,7 @@ enum {
     BUILDER_READS_BEFORE_THE_DATAGRAMS_SOURCE,
     BUILDER_READS_PAST_THE_DATAGRAMS_TARGET,
     BUILDER_READS_PAST_THE_DATA,
+    BUILDER_SENDS_A_CHECKSUM_OF_0,
     CHECKSUM_READS_A_WHOLE_LAST_WORD,
     READER_READS_PAST_THE_FRAME,
     READER_WRITES_PARTS_OUTSIDE,
@@ -104,6 +105,7 @@ struct {
     {"builder_reads_before_the_datagrams_source", "guards memory"},
     {"builder_reads_past_the_datagrams_target", "guards memory"},
     {"builder_reads_past_the_data", "guards memory"},
+    {"builder_sends_a_checksum_of_0", "guards memory"},
     {"checksum_reads_a_whole_last_word", "guards memory"},
     {"reader_reads_past_the_frame", "guards memory"},
     {"reader_writes_parts_outside", "guards memory"},
@@ -247,8 +249,10 @@ uint32_t faulty_yavoledu_make_udp_payload(const uint8_t src_ip[4], uint16_t src_
     case BUILDER_READS_PAST_THE_DATA: if (data_len % 2) touch(data + data_len); break;
     }
     uint32_t number = yavoledu_make_udp_payload(src_ip, src_port, dst_ip, dst_port, data, data_len, out, out_len, values);
-    if (hard_fault == BUILDER_WRITES_PAST_THE_DATAGRAM && number == YAVOLEDU_REPLY && values[0] < out_len) {
-        spoil(out + values[0]);
+    if (number != YAVOLEDU_REPLY) return number;
+    switch (hard_fault) {
+    case BUILDER_WRITES_PAST_THE_DATAGRAM: if (values[0] < out_len) spoil(out + values[0]); break;
+    case BUILDER_SENDS_A_CHECKSUM_OF_0: if (out[6] == 0xff && out[7] == 0xff) memset(out + 6, 0, 2); break;
     }
     return number;
 }

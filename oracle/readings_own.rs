@@ -1,6 +1,6 @@
 //! Frames that the gateway and the builders make: the answers of the published Rust, and the datagrams of
 //! others, out of the list that `replay` replays. The gateway's replies have to be in the grammar, all of
-//! them, and so have the datagrams, whose checksum is none of 0, but for those of DHCP's ports.
+//! them. Each datagram has to have a checksum and, unless it is between DHCP's ports, to be in the grammar.
 
 use crate::document_01::{Record, ip_frame};
 use crate::draws::GUEST_MAC;
