@@ -1,5 +1,5 @@
 -- `amended`, run on the frames that the compiled Rust pushed (the table of its runs): each DHCP reply has document 01's UDP header of D0, 00 44 00 43 01 34 00 00, and gets document 02's,
--- 00 43 00 44 01 34 and the checksum that another program reckoned; each ARP reply and each echo stays as it is. And `summed`, run on the datagrams that it built.
+-- 00 43 00 44 01 34 and the checksum that scapy gives it; each ARP reply and each echo stays as it is. And `summed`, run on the datagrams that it built.
 use Prim.Native.Nat.{ℕ}
 use mathlib.Core.List.{List, [], _∷_, _++_}
 use mathlib.Core.Path.{_≡_, refl}
@@ -72,7 +72,7 @@ abbrev pub builtIn : List Row → List (List ℕ)
 builtIn [] = []
 builtIn (row ∷ rows) = builtBy row ++ builtIn rows
 
--- from 10.0.2.2 to 10.0.2.15: the Rust's bytes, and in 6 and 7 the checksum that another program reckoned
+-- from 10.0.2.2 to 10.0.2.15: the Rust's bytes, and in 6 and 7 the checksum that scapy gives them
 pub datagrams-of-the-rust : each (take 8) (builtIn udpPayloads)
     ≡ (0x01 ∷ 0x02 ∷ 0x03 ∷ 0x04 ∷ 0x00 ∷ 0x08 ∷ 0x00 ∷ 0x00 ∷ [])
     ∷ (0x00 ∷ 0x44 ∷ 0x00 ∷ 0x43 ∷ 0x00 ∷ 0x09 ∷ 0x00 ∷ 0x00 ∷ [])

@@ -29,7 +29,7 @@ pub replies-sum-right : (type : ℕ) → DatagramOf (drop 34 (dhcpReply type)) (
 unfolding datagram
 replies-sum-right type = datagram-reads-back (0x0a ∷ 0x00 ∷ 0x02 ∷ 0x02 ∷ []) (0x0a ∷ 0x00 ∷ 0x02 ∷ 0xff ∷ []) refl refl 67 68 (behindChecksum type)
 
--- of the offer and the acknowledgement in the table these are, as reckoned elsewhere
+-- of the offer and the acknowledgement in the table they are those that scapy gives them
 pub in-the-rows : (itsChecksum 2 ≡ 0x6c ∷ 0xfc ∷ []) × (itsChecksum 5 ≡ 0x69 ∷ 0xfc ∷ [])
 unfolding checksumOf transmitted covered pseudoHeader checksum total words sum fold
 in-the-rows = (refl, refl)

@@ -31,10 +31,10 @@ returns-3 c =
     let d = a .data .now in
     let four : length (a .src-ip) ≡ 4 = omega (arith, start .good) in
     let four′ : length (a .dst-ip) ≡ 4 = omega (arith, start .good) in
+    let laid : made .udp-header .result ≡ datagramHeader (transmitted (65535 - summed .sum .result)) (a .src-port) (a .dst-port) (8 + length d) = made .udp-header .ensures in
     let sent : transmitted (65535 - summed .sum .result) ≡ checksumOf (a .src-ip) (a .dst-ip) (a .src-port) (a .dst-port) d =
     checksum-continued (a .src-ip) (a .dst-ip) four four′ (a .src-port) (a .dst-port) d _ _ (front .front-sum .ensures) (summed .sum .ensures) in
     let head = datagramHeader (checksumOf (a .src-ip) (a .dst-ip) (a .src-port) (a .dst-port) d) (a .src-port) (a .dst-port) (8 + length d) in
-    let laid : made .udp-header .result ≡ datagramHeader (transmitted (65535 - summed .sum .result)) (a .src-port) (a .dst-port) (8 + length d) = made .udp-header .ensures in
     let its-head : made .udp-header .result ≡ head = laid ∙ ap (λ (n : ℕ). datagramHeader n (a .src-port) (a .dst-port) (8 + length d)) sent in
     let within : length d ≤ 65527 = omega (arith, tests .before .if1 .left) in
     let room : 8 + length d ≤ length (a .out .now) = omega (arith, tests .if2 .left) in
