@@ -52,7 +52,7 @@ pub fn front_sum(src_ip: [u8; 4], src_port: u16, dst_ip: [u8; 4], dst_port: u16,
     sum(sum(0, &pseudo), &blank)
 }
 
-// The header, with the checksum that the sum over all of this leads to.
+// The header of such a datagram, by the sum of all that its checksum covers.
 pub fn udp_header(src_port: u16, dst_port: u16, len: u16, sum_of_all: u16) -> [u8; 8]
     ensures { λ r. ⌜ r ≡ datagramHeader (Rfc768·transmitted (65535 - «sum_of_all»)) «src_port» «dst_port» len ⌝ }
 {
