@@ -1,4 +1,4 @@
--- The fields of a datagram, read from its bytes at their offsets, are the ones that were put in; it sums right, and so does the datagram in a frame around it.
+-- The fields of a datagram, read from its bytes at their offsets, are the ones that were put in; and it sums right.
 use Prim.Native.Nat.{ℕ}
 use mathlib.Core.Path.{_≡_, refl, sym, _∙_}
 use mathlib.Core.List.{List}
@@ -7,8 +7,6 @@ use lib.ListN.{length, drop}
 use Rattle.sums.specs.Rfc1071.{SumsRight}
 use Rattle.wire.specs.Rfc768 as Udp
 use Rattle.wire.specs.Rfc768.{covered, checksumOf, datagram}
-use Rattle.frames.specs.Frames.{ipFrame}
-use Rattle.frames.proofs.Lengths.{drop-34}
 use Rattle.datagrams.proofs.Datagram.{datagram-sums-right, checksum-some}
 
 -- RFC 768, "Fields": `s` is a datagram from one address and port to another, around this data
@@ -42,7 +40,3 @@ module _ (from to : List ℕ) (four : length from ≡ 4) (four′ : length to �
         sums = datagram-sums-right from to four four′ source target d;
         carried = data-behind;
       }
-
-  -- the datagram in a frame from the one address to the other
-  pub datagram-frame-reads-back : (mac : List ℕ) (id : ℕ) → length mac ≡ 6 → DatagramOf (drop 34 (ipFrame mac id 17 from to (datagram from to source target d))) from to source target d
-  datagram-frame-reads-back mac id six = rw (drop-34 mac from to (datagram from to source target d) id 17 six four four′) datagram-reads-back

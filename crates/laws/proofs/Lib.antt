@@ -9,3 +9,4 @@ pub mod DerivedReplies
 pub mod Demand3
 pub mod NamedFrames
 pub mod OwnNetwork
+pub mod DatagramFrames
