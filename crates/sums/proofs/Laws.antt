@@ -35,11 +35,6 @@ unfolding fold
 fold-most zero = omega arith
 fold-most (suc s) = omega arith
 
--- two folds of a 32-bit total are the fold
-pub two-folds : (s : ℕ) → s < 4294967296 → (s / 65536 + s % 65536) / 65536 + (s / 65536 + s % 65536) % 65536 ≡ fold s
-two-folds zero h = sym fold-zero
-two-folds (suc s) h = rw (fold-pos (suc s) (omega arith)) (omega arith)
-
 -- 65,535 more, `k` times, changes nothing where there is something to fold
 fold-rounds : (s k : ℕ) → 0 < s → fold (s + 65535 * k) ≡ fold s
 fold-rounds s k h = rw (fold-pos s h, fold-pos (s + 65535 * k) (omega arith)) (omega arith)
@@ -87,22 +82,21 @@ unfolding total words sum
 total-none s i h = rw (drop-of-length-le s {i = i} h)
 
 -- a word added low byte first: 256 times the sum and what is left fold to the same
-pub fold-word : {w : ℕ} (s : List ℕ) (i next so-far : ℕ) → next ≡ i + 2 → next ≤ length s → w ≡ getD s (i + 1) 0 * 256 + getD s i 0
-    → fold ((so-far + w) * 256 + total (drop next s)) ≡ fold (so-far * 256 + total (drop i s))
+pub fold-word : {sum-with : ℕ} (s : List ℕ) (i next so-far : ℕ) → next ≡ i + 2 → next ≤ length s → sum-with ≡ so-far + (getD s (i + 1) 0 * 256 + getD s i 0)
+    → fold (sum-with * 256 + total (drop next s)) ≡ fold (so-far * 256 + total (drop i s))
 fold-word s i next so-far e h f =
     let step = total-step s i (omega arith) in
     rw e (ap fold (omega arith) ∙ fold-few-rounds (so-far * 256 + total (drop i s)) (getD s (i + 1) 0) (omega arith))
 
--- a part of which 256 times `w` folds to its sum `t`, added to what is folded so far: with what is left, `u`, the fold is the same
-pub fold-part : {running wide folded : ℕ} (w t u : ℕ) → wide ≡ running → folded ≡ fold (wide + w) → fold (w * 256) ≡ fold t
-    → fold (folded * 256 + u) ≡ fold (running * 256 + (t + u))
-fold-part {running} w t u e f g =
-    rw (f, e)
-    (fold-scaled (running + w) u
-    ∙ ap fold (omega arith)
-    ∙ sym (fold-fold (w * 256) (running * 256 + u))
-    ∙ ap (λ (n : ℕ). fold (n + (running * 256 + u))) g
-    ∙ fold-fold t (running * 256 + u)
+-- a piece of which the words, whose sum is `t`, were added to what is folded so far, folded: with what is left, `u`, the fold is the same
+pub fold-piece : {folded : ℕ} (so-far running t u : ℕ) → folded ≡ fold running → fold (running * 256) ≡ fold (so-far * 256 + t)
+    → fold (folded * 256 + u) ≡ fold (so-far * 256 + (t + u))
+fold-piece so-far running t u e f =
+    rw e
+    (fold-scaled running u
+    ∙ sym (fold-fold (running * 256) u)
+    ∙ ap (λ (n : ℕ). fold (n + u)) f
+    ∙ fold-fold (so-far * 256 + t) u
     ∙ ap fold (omega arith))
 
 -- a piece of even length and what is left have the sum of both

@@ -1,1 +1,2 @@
+pub mod Folding
 pub mod Rfc1071

@@ -1,13 +1,15 @@
-// The Internet checksum of RFC 1071, right at every length: a long input is folded on the way, so
-// that the running total stays inside 32 bits. Words are added low byte first, as the machine loads
-// them, and the two bytes of the sum are exchanged at the end: section 2 (B), "byte order independence".
+// The Internet checksum of RFC 1071, right at every length. Document 02, request 3/13: a total of 32 bits is
+// folded in two straight steps, and a long input is folded on the way, so that the running total stays
+// inside 32 bits. Words are added low byte first, as the machine loads them, and the two bytes of the sum are
+// exchanged at the end: RFC 1071, section 2 (B), "byte order independence".
 ghost use mathlib.Core.Path.{_≡_};
-ghost use Prim.Native.Nat.{_+_, _*_, _≤_, _<_};
+ghost use Prim.Native.Nat.{_+_, _*_, _-_, _/_, _≤_, _<_};
 ghost use lib.ListN.{length, getD, drop};
+ghost use Rattle.sums.specs.Folding.{longestPiece, mostBehind};
 ghost use Rattle.sums.specs.Rfc1071.{total, fold, checksum as Rfc1071·checksum};
 
-// The largest piece whose words are summed with no fold. It is even, so a word never spans two.
-const PIECE: usize = 65536;
+// The longest piece with no fold inside. It is even, so a word never spans two.
+const PIECE: usize = 131072;
 
 // The checksum of all of `input`.
 pub fn checksum(input: &[u8]) -> u16
@@ -21,43 +23,56 @@ pub fn checksum(input: &[u8]) -> u16
 pub fn sum(start: u16, input: &[u8]) -> u16
     ensures { λ r. ⌜ r ≡ fold (start + total (now (input .entry))) ⌝ }
 {
-    let mut running = exchanged(start);
+    let mut so_far = exchanged(start);
     let mut at = 0;
     while PIECE < input.len() - at {
         let end = at + PIECE;
-        running = folded(widened(running) + words_total(&input[at..end]));
+        so_far = folded(total_behind(so_far, &input[at..end]));
         at = end;
     }
-    exchanged(folded(widened(running) + words_total(&input[at..])))
+    exchanged(folded(total_behind(so_far, &input[at..])))
 }
 
-// The words of `piece` added low byte first, an odd last byte as the low half: 256 times this folds
-// to what the words themselves fold to. With two words a turn the compiler loads eight at once.
-fn words_total(piece: &[u8]) -> u32
-    requires { ⌜ length (now piece) ≤ 65536 ⌝ }
-    ensures { λ r. ⌜ (fold (r * 256) ≡ fold (total (now (piece .entry)))) × (r ≤ 65535 * 65535) ⌝ }
+// The running total behind `piece`: what is folded so far and the words of the piece, added low byte first, an
+// odd last byte as the low half. 256 times this folds to what 256 times the former and the words themselves
+// fold to. With two words a turn the compiler loads eight at once.
+fn total_behind(so_far: u16, piece: &[u8]) -> u32
+    requires { ⌜ length (now piece) ≤ longestPiece ⌝ }
+    ensures { λ r. ⌜ fold (r * 256) ≡ fold («so_far» * 256 + total (now (piece .entry))) ⌝ }
+    ensures { λ r. ⌜ r ≤ mostBehind ((length (now (piece .entry)) + 1) / 2) ⌝ }
 {
-    let mut sum: u32 = 0;
+    let mut running = widened(so_far);
     let mut i = 0;
     while i + 3 < piece.len() {
-        sum = sum + word_at(piece, i) + word_at(piece, i + 2);
+        running = with_word(with_word(running, piece, i), piece, i + 2);
         i += 4;
     }
     if i + 1 < piece.len() {
-        return sum + word_at(piece, i) + odd_byte(piece, i + 2);
+        return with_odd_byte(with_word(running, piece, i), piece, i + 2);
     }
-    sum + odd_byte(piece, i)
+    with_odd_byte(running, piece, i)
 }
 
-// The odd last byte as a low half, where `i` is its place; 0 where there is none.
-fn odd_byte(piece: &[u8], i: usize) -> u32
-    requires { ⌜ length (now piece) ≤ i + 1 ⌝ }
-    ensures { λ r. ⌜ (r * 256 ≡ total (drop i (now (piece .entry)))) × (r < 65536) ⌝ }
+// One step: the word at `i` added to the running total behind the bytes before it.
+fn with_word(running: u32, piece: &[u8], i: usize) -> u32
+    requires { ⌜ (i + 1 < length (now piece)) × (length (now piece) ≤ longestPiece) × (running ≤ mostBehind (i / 2)) ⌝ }
+    ensures { λ r. ⌜ r ≡ running + (getD (now (piece .entry)) (i + 1) 0 * 256 + getD (now (piece .entry)) i 0) ⌝ }
+    ensures { λ r. ⌜ r ≤ mostBehind (i / 2 + 1) ⌝ }
+{
+    running + word(piece[i + 1], piece[i])
+}
+
+// The last step: the odd last byte as a low half, where `i` is its place; the same total where there is none.
+fn with_odd_byte(running: u32, piece: &[u8], i: usize) -> u32
+    requires { ⌜ (i ≤ length (now piece)) × (length (now piece) ≤ i + 1) ⌝ }
+    requires { ⌜ (length (now piece) ≤ longestPiece) × (running ≤ mostBehind (i / 2)) ⌝ }
+    ensures { λ r. ⌜ r * 256 ≡ running * 256 + total (drop i (now (piece .entry))) ⌝ }
+    ensures { λ r. ⌜ r ≤ mostBehind ((length (now (piece .entry)) + 1) / 2) ⌝ }
 {
     if i < piece.len() {
-        return word(0, piece[i]);
+        return running + word(0, piece[i]);
     }
-    0
+    running
 }
 
 // Two folds are enough for 32 bits: the first leaves at most 131,070, the second at most 65,535.
@@ -74,13 +89,6 @@ fn exchanged(n: u16) -> u16
     ensures { λ r. ⌜ r ≡ fold (n * 256) ⌝ }
 {
     n % 256 * 256 + n / 256
-}
-
-fn word_at(piece: &[u8], i: usize) -> u32
-    requires { ⌜ i + 1 < length (now piece) ⌝ }
-    ensures { λ r. ⌜ (r ≡ getD (now (piece .entry)) (i + 1) 0 * 256 + getD (now (piece .entry)) i 0) × (r < 65536) ⌝ }
-{
-    word(piece[i + 1], piece[i])
 }
 
 fn word(high: u8, low: u8) -> u32
