@@ -71,10 +71,11 @@ fn reaches(len: usize, stop: usize) -> bool
     (stop - 1) / 64 < len
 }
 
-// How many of `left` blocks lie in one word, where the first is its bit `low`.
+// How many of `left` blocks lie in one word, where the first is its bit `low`: where there are more, all that
+// the word has room for.
 fn within(low: usize, left: usize) -> usize
     requires { ⌜ (low < 64) × (0 < left) ⌝ }
-    ensures { λ r. ⌜ (0 < r) × (low + r ≤ 64) × (r ≤ left) ⌝ }
+    ensures { λ r. ⌜ (0 < r) × (low + r ≤ 64) × (r ≤ left) × (r < left → low + r ≡ 64) ⌝ }
 {
     if left < 64 - low {
         return left;

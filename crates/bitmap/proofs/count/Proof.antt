@@ -6,14 +6,22 @@ use native.Mathlib.Omega.{arith}
 use lib.Count.{onesIn}
 use Rattle.bitmap.specs.Bitmap.{bit, count}
 use Rattle.bitmap.proofs.Blocks.{count-in-word-of, count-rest}
+use Rattle.bitmap.proofs.WordsLeft.{wordsLeft, words-fall}
 use Rattle.bitmap.proofs.count.Statement.{statement}
 use Rattle.bitmap.proofs.count.Tie as tie
 
 abbrev Inv-loop : tie.InvT-loop
 Inv-loop bits first stop found₀ at₀ found at = (found + count (bit bits) at (stop - at) ≡ count (bit bits) first (stop - first)) × (found ≤ at)
 
+-- at the start it is the number of turns
 abbrev μ-loop : tie.MeasureT-loop
-μ-loop bits first stop found₀ at₀ found at = stop - at
+μ-loop bits first stop found₀ at₀ found at = wordsLeft at stop
+
+loop-less : tie.Need-loop-less Inv-loop μ-loop
+loop-less c =
+    let stop = c .before .before .before .before .before .before .args .stop in
+    let n = c .before .before .within in
+    words-fall (c .before .before .before .before .loop .at) (n .result) stop (omega arith) (omega arith) (omega arith) (omega arith) (n .ensures .3)
 
 loop-again : tie.Need-loop-again Inv-loop μ-loop
 loop-again c =
@@ -42,4 +50,4 @@ count-spec =
     tie.close
     (tie.spec Inv-loop μ-loop (λ c. search needs) (λ c. search needs) (λ c κs. search needs)
     (λ c κs. search needs) (λ c. search needs) (λ c κs. search needs) (λ c. search needs) (λ c. search needs)
-    (λ c. search needs) loop-again returns)
+    loop-less loop-again returns)

@@ -11,6 +11,7 @@ use lib.Pow.{shl-exact, ones-lt}
 use Rattle.bitmap.specs.Bitmap.{bit, having}
 use Rattle.bitmap.proofs.Digits.{run}
 use Rattle.bitmap.proofs.Blocks.{having-none, marked-to, run-to}
+use Rattle.bitmap.proofs.WordsLeft.{wordsLeft, words-fall}
 use Rattle.bitmap.proofs.mark.Statement.{statement}
 use Rattle.bitmap.proofs.mark.Tie as tie
 
@@ -19,8 +20,9 @@ Inv-loop bits₀ first stop at₀ bits at =
     ((b : ℕ) → bit bits b ≡ having (bit bits₀) first at b)
     × (length bits ≡ length bits₀) × (first ≤ at) × (at ≤ stop + (first - stop)) × (stop ≤ length bits₀ * 64)
 
+-- at the start it is the number of turns
 abbrev μ-loop : tie.MeasureT-loop
-μ-loop bits₀ first stop at₀ bits at = stop - at
+μ-loop bits₀ first stop at₀ bits at = wordsLeft at stop
 
 returns : tie.Need-returns Inv-loop μ-loop
 returns c =
@@ -44,6 +46,12 @@ slice-read-bits c = omega arith
 
 slice-write-bits : tie.Need-slice-write-bits Inv-loop μ-loop
 slice-write-bits c = omega arith
+
+loop-less : tie.Need-loop-less Inv-loop μ-loop
+loop-less c =
+    let a = c .before .before .before .before .before .before .before .before .args in
+    let n = c .before .before .within in
+    words-fall (c .before .before .before .before .loop .at) (n .result) (a .stop) (omega arith) (omega arith) (omega arith) (omega arith) (n .ensures .3)
 
 loop-again : tie.Need-loop-again Inv-loop μ-loop
 loop-again c =
@@ -79,5 +87,5 @@ mark-spec =
     tie.close
     (tie.spec Inv-loop μ-loop (λ c κs. search needs) returns loop-holds (λ c. search needs)
     (λ c κs. search needs) (λ c. search needs) slice-read-bits (λ c κs. search needs) (λ c. search needs)
-    (λ c. search needs) slice-write-bits (λ c. search needs) (λ c. search needs) loop-again
+    (λ c. search needs) slice-write-bits (λ c. search needs) loop-less loop-again
     (λ c. search needs) returns-2)
