@@ -1,0 +1,115 @@
+//! Runs every input on the library with counters and tells, a line for each, the most turns that were counted. tools/count-turns reads them.
+
+mod at_most;
+mod built;
+mod calls;
+mod drawn;
+mod frames;
+mod piece;
+
+use at_most::{Turns, at_most};
+use calls::{Call, Outcome};
+use std::collections::BTreeMap;
+use std::fmt::Display;
+use turns::Taken;
+
+/// What docs/LOOPS.md has a column for.
+const COLUMNS: [&str; 3] = ["1,514", "65,549", "any length"];
+const LENGTHS_OF_COLUMNS: [usize; 2] = [1_514, 65_549];
+const TOLD_DIFFERENCES: usize = 20;
+
+/// The most that was counted of one thing, and the first input that took it.
+#[derive(Default)]
+struct Most {
+    count: u64,
+    words: String,
+}
+
+#[derive(Default)]
+struct Tally {
+    origin: &'static str,
+    calls: usize,
+    /// By what is counted, the column and where the input comes from.
+    most: BTreeMap<(String, usize, &'static str), Most>,
+    differences: usize,
+}
+
+impl Tally {
+    fn differs(&mut self, words: &str, call: &Call, told: impl Display) {
+        self.differences += 1;
+        if self.differences <= TOLD_DIFFERENCES {
+            println!("difference\t{}, {words}: {told}", call.function());
+        }
+    }
+
+    fn note(&mut self, what: String, column: usize, count: u64, words: &str) {
+        let most = self.most.entry((what, column, self.origin)).or_default();
+        if most.count < count || most.words.is_empty() {
+            *most = Most { count, words: words.to_string() };
+        }
+    }
+
+    fn note_all(&mut self, call: &Call, taken: &Taken, words: &str) {
+        let length = call.frame_length();
+        for column in 0..COLUMNS.len() {
+            let belongs = LENGTHS_OF_COLUMNS.get(column).is_none_or(|of| length.is_none_or(|length| length == *of));
+            if !belongs {
+                continue;
+            }
+            let full = format!("{}, {words}", call.function());
+            for (number, longest) in taken.longest_run.iter().enumerate() {
+                self.note(format!("loop\t{number}"), column, *longest, &full);
+            }
+            for (number, deepest) in taken.deepest.iter().enumerate() {
+                self.note(format!("deepest\t{number}"), column, *deepest, &full);
+                self.note(format!("calls\t{number}"), column, taken.calls[number], &full);
+            }
+            self.note(format!("call\t{}", call.function()), column, taken.whole(), words);
+        }
+    }
+
+    fn run(&mut self, words: String, call: Call) -> Option<(Outcome, u64)> {
+        self.calls += 1;
+        let (outcome, taken) = match call.counted() {
+            Ok(counted) => counted,
+            Err(panic) => {
+                self.differs(&words, &call, format!("the code panics: {panic}"));
+                return None;
+            }
+        };
+        let whole = taken.whole();
+        self.note_all(&call, &taken, &words);
+        match at_most(&call, &outcome) {
+            Turns::Exactly(turns) if turns as u64 != whole => {
+                self.differs(&words, &call, format!("{whole} turns, and by the formula {turns}"));
+            }
+            Turns::AtMost(turns) if (turns as u64) < whole => {
+                self.differs(&words, &call, format!("{whole} turns, and by the formula at most {turns}"));
+            }
+            _ => {}
+        }
+        if let Call::Checksum { data } = &call {
+            let loops: Vec<String> = taken.longest_run.iter().map(u64::to_string).collect();
+            println!("length\t{}\t{whole}\t{}", data.len(), loops.join(","));
+        }
+        #[cfg(shipped)]
+        if call.run(&calls::ShippedLibrary) != outcome {
+            self.differs(&words, &call, "the library with counters does not answer as the shipped one");
+        }
+        Some((outcome, whole))
+    }
+}
+
+fn main() {
+    std::panic::set_hook(Box::new(|_| {}));
+    let mut tally = Tally { origin: "built", ..Tally::default() };
+    built::each(&mut |words, call| tally.run(words, call));
+    println!("calls\tbuilt\t{}", tally.calls);
+    (tally.origin, tally.calls) = ("drawn", 0);
+    drawn::each(&mut |words, call| tally.run(words, call));
+    println!("calls\tdrawn\t{}", tally.calls);
+    for ((what, column, origin), most) in &tally.most {
+        println!("most\t{what}\t{}\t{origin}\t{}\t{}", COLUMNS[*column], most.count, most.words);
+    }
+    println!("differences\t{}", tally.differences);
+}

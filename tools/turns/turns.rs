@@ -1,0 +1,89 @@
+//! The counters. One call of the library is counted at a time: `start`, the call, `counted`.
+
+use std::sync::atomic::{AtomicU64, Ordering::Relaxed};
+
+const MOST: usize = 64;
+
+static TURNS: [AtomicU64; MOST] = [const { AtomicU64::new(0) }; MOST];
+static TURNS_OF_RUN: [AtomicU64; MOST] = [const { AtomicU64::new(0) }; MOST];
+static LONGEST_RUN: [AtomicU64; MOST] = [const { AtomicU64::new(0) }; MOST];
+static CALLS: [AtomicU64; MOST] = [const { AtomicU64::new(0) }; MOST];
+static DEPTH: [AtomicU64; MOST] = [const { AtomicU64::new(0) }; MOST];
+static DEEPEST: [AtomicU64; MOST] = [const { AtomicU64::new(0) }; MOST];
+
+fn add_one(counter: &AtomicU64) -> u64 {
+    let more = counter.load(Relaxed) + 1;
+    counter.store(more, Relaxed);
+    more
+}
+
+fn raise(most: &AtomicU64, value: u64) {
+    if most.load(Relaxed) < value {
+        most.store(value, Relaxed);
+    }
+}
+
+/// The function of loop `k` starts.
+pub fn run(k: usize) {
+    TURNS_OF_RUN[k].store(0, Relaxed);
+}
+
+/// Loop `k` takes a turn.
+#[inline]
+pub fn turn(k: usize) {
+    add_one(&TURNS[k]);
+    raise(&LONGEST_RUN[k], add_one(&TURNS_OF_RUN[k]));
+}
+
+/// One of the functions of recursion `k` is called; it has returned once this is dropped.
+pub fn call(k: usize) -> Call {
+    add_one(&CALLS[k]);
+    raise(&DEEPEST[k], add_one(&DEPTH[k]));
+    Call(k)
+}
+
+pub struct Call(usize);
+
+impl Drop for Call {
+    fn drop(&mut self) {
+        DEPTH[self.0].store(DEPTH[self.0].load(Relaxed) - 1, Relaxed);
+    }
+}
+
+/// What one call of the library took.
+#[derive(Clone, Default)]
+pub struct Taken {
+    /// For each loop all its turns, and the most turns in one run of its function.
+    pub turns: Vec<u64>,
+    pub longest_run: Vec<u64>,
+    /// For each recursion all calls of its functions, and how deep they were nested.
+    pub calls: Vec<u64>,
+    pub deepest: Vec<u64>,
+}
+
+impl Taken {
+    /// All turns of all loops, and all calls of the recursions, each of which counts as a turn.
+    pub fn whole(&self) -> u64 {
+        self.turns.iter().chain(&self.calls).sum()
+    }
+}
+
+pub fn start() {
+    for counters in [&TURNS, &TURNS_OF_RUN, &LONGEST_RUN, &CALLS, &DEPTH, &DEEPEST] {
+        counters.iter().for_each(|counter| counter.store(0, Relaxed));
+    }
+}
+
+pub fn counted() -> Taken {
+    let read = |counters: &[AtomicU64; MOST], len: usize| {
+        counters[..len].iter().map(|counter| counter.load(Relaxed)).collect()
+    };
+    Taken {
+        turns: read(&TURNS, LOOPS.len()),
+        longest_run: read(&LONGEST_RUN, LOOPS.len()),
+        calls: read(&CALLS, RECURSIONS.len()),
+        deepest: read(&DEEPEST, RECURSIONS.len()),
+    }
+}
+
+// What has a counter, in the order of their numbers; behind this line it is written by counted_sources.py.
