@@ -3,7 +3,7 @@
 
 use crate::calls::{Call, Outcome, PAYLOAD_LIMIT};
 use crate::frames::*;
-use crate::piece::PIECE;
+use turns::PIECE;
 
 const REPLY: u32 = 1;
 const PASSED: u32 = 20;
@@ -22,7 +22,8 @@ const DHCP_PORTS: [usize; 2] = [68, 67];
 pub enum Turns {
     /// Every such call takes just so many.
     Exactly(usize),
-    AtMost(usize),
+    /// A call of this kind takes so many or fewer; some built input of the kind has to take so many.
+    AtMost(&'static str, usize),
 }
 
 use Turns::*;
@@ -31,7 +32,7 @@ pub fn at_most(call: &Call, outcome: &Outcome) -> Turns {
     let is_reply = outcome.number == REPLY;
     match call {
         Call::Send { frame, .. } => send(frame, is_reply),
-        Call::Read { frame } => AtMost(read(frame)),
+        Call::Read { frame } => read(frame),
         Call::Take { store, frame } => take(store.state, frame, outcome.number),
         // 128 where the store is lent at its size, and else none.
         Call::Release { .. } => Exactly(if outcome.number == RELEASED { 128 } else { 0 }),
@@ -46,7 +47,9 @@ pub fn at_most(call: &Call, outcome: &Outcome) -> Turns {
             Exactly(data.len() + data.len() / 4 + 67 + if flags & 2 != 0 { 10 } else { 0 })
         }
         // A builder that refuses takes none.
-        Call::MakeIpFrame { .. } | Call::MakeUdpPayload { .. } | Call::MakeTcpFrame { .. } => Exactly(0),
+        Call::MakeIpFrame { .. } | Call::MakeUdpPayload { .. } | Call::MakeTcpFrame { .. } => {
+            Exactly(0)
+        }
         Call::MakeGuest { .. } => Exactly(0),
     }
 }
@@ -60,10 +63,17 @@ fn send(frame: &[u8], is_reply: bool) -> Turns {
         let n = frame.len().saturating_sub(payload_at(frame));
         return Exactly(if is_reply { n + n / 4 + 38 } else { 0 });
     }
-    match (frame[PROTOCOL_AT] == UDP).then(|| data_of(frame)).flatten() {
+    match (frame[PROTOCOL_AT] == UDP)
+        .then(|| data_of(frame))
+        .flatten()
+    {
         Some((start, stop)) if ports_of(frame) == DHCP_PORTS && start + FIXED <= stop => {
             let m = stop - start - FIXED;
-            AtMost(if is_reply { m + 425 } else { m + 1 })
+            if is_reply {
+                AtMost("DHCP that is answered", m + 425)
+            } else {
+                AtMost("DHCP that is not answered", m + 1)
+            }
         }
         _ => Exactly(0),
     }
@@ -75,20 +85,24 @@ fn ports_of(frame: &[u8]) -> [usize; 2] {
 }
 
 /// b/4 + 3, and where the data is a DHCP message 2m + 1 calls of the list's and the item's reader; m is at most 1,232.
-fn read(frame: &[u8]) -> usize {
+fn read(frame: &[u8]) -> Turns {
     if frame.len() < ETHERNET || frame[TYPE_AT..ETHERNET] != [8, 0] {
-        return 0;
+        return Exactly(0);
     }
     let turns_of_sums = (frame.len() - ETHERNET) / 4 + 3;
+    let without_a_list = AtMost("an IPv4 frame that is read", turns_of_sums);
     if frame.len() < 34 || frame[PROTOCOL_AT] != UDP || frame.len() < payload_at(frame) + 8 {
-        return turns_of_sums;
+        return without_a_list;
     }
     let (ports, data) = (ports_of(frame), frame.len() - payload_at(frame) - 8);
     let is_dhcp = ports == [67, 68] || ports == [68, 67];
     if !is_dhcp || !(FIXED..=1_472).contains(&data) {
-        return turns_of_sums;
+        return without_a_list;
     }
-    turns_of_sums + 2 * (data - FIXED) + 1
+    AtMost(
+        "a DHCP message that is read",
+        turns_of_sums + 2 * (data - FIXED) + 1,
+    )
 }
 
 /// A quarter of the header. A fragment takes besides a turn for each word of the bitmap that its blocks touch, w. One that is stored takes
@@ -97,7 +111,14 @@ fn read(frame: &[u8]) -> usize {
 fn take(state: [u32; 6], frame: &[u8], answer: u32) -> Turns {
     if answer == UNFIT {
         let is_summed = 34 <= frame.len();
-        return AtMost(if is_summed { usize::from(frame[ETHERNET] & 15) } else { 0 });
+        return AtMost(
+            "a frame that is unfit",
+            if is_summed {
+                usize::from(frame[ETHERNET] & 15)
+            } else {
+                0
+            },
+        );
     }
     let header = 4 * usize::from(frame[ETHERNET] & 15);
     if answer == PASSED || answer == HELD {

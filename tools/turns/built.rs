@@ -2,7 +2,7 @@
 
 use crate::calls::*;
 use crate::frames::*;
-use crate::piece::PIECE;
+use turns::PIECE;
 
 /// The two lengths that docs/LOOPS.md has columns for, and longer ones.
 pub const LENGTHS: [usize; 4] = [1_514, 65_549, 70_000, 200_000];
@@ -23,6 +23,7 @@ pub fn each(run: Run) {
     fragments_of_a_large_frame(run);
     builders(run);
     checksums(run);
+    every_length(run);
     releases(run);
     makings(run);
 }
@@ -35,16 +36,26 @@ fn send(run: Run, words: String, frame: Vec<u8>) {
 fn pings(run: Run) {
     for words in 1..16 {
         let start = 14 + 4 * words;
-        for len in LENGTHS.into_iter().chain([60, start + PAYLOAD_LIMIT, start + PAYLOAD_LIMIT + 1]) {
+        for len in LENGTHS
+            .into_iter()
+            .chain([60, start + PAYLOAD_LIMIT, start + PAYLOAD_LIMIT + 1])
+        {
             if len < start + 8 {
                 continue;
             }
-            let told = format!("a ping of {} bytes in a frame of {len}, header length {}", len - start, 4 * words);
+            let told = format!(
+                "a ping of {} bytes in a frame of {len}, header length {}",
+                len - start,
+                4 * words
+            );
             send(run, told, ping(len, words));
         }
     }
     let frame = ping(1_514, 5);
-    run("a ping with no room".to_string(), Call::Send { frame, room: 1_513 });
+    run(
+        "a ping with no room".to_string(),
+        Call::Send { frame, room: 1_513 },
+    );
 }
 
 /// DHCP messages behind every header length that leaves them in the frame, their lists as long as can be.
@@ -62,7 +73,10 @@ fn dhcp_sent(run: Run) {
         for len in LENGTHS {
             for (told, last) in ends {
                 let frame = with_last(dhcp_of_guest(len, words), last);
-                let told = format!("DHCP, {told}, in a frame of {len}, header length {}", 4 * words);
+                let told = format!(
+                    "DHCP, {told}, in a frame of {len}, header length {}",
+                    4 * words
+                );
                 send(run, told, frame);
             }
         }
@@ -73,10 +87,17 @@ fn dhcp_sent(run: Run) {
         for at in (start + FIXED..stop - 1).step_by(2) {
             put(&mut frame, at, &[1, 0]);
         }
-        send(run, format!("DHCP, options of no length, in a frame of {len}"), frame);
+        send(
+            run,
+            format!("DHCP, options of no length, in a frame of {len}"),
+            frame,
+        );
     }
     let frame = with_last(dhcp_of_guest(1_514, 0), &[53, 1, 1]);
-    run("DHCP with no room".to_string(), Call::Send { frame, room: 341 });
+    run(
+        "DHCP with no room".to_string(),
+        Call::Send { frame, room: 341 },
+    );
 }
 
 /// With a header length of 0 the datagram starts where the IPv4 header does: port 68 is the bytes 00 44, and the protocol lies in the message.
@@ -95,9 +116,21 @@ fn other_frames(run: Run) {
         send(run, format!("an ARP request in a frame of {len}"), arp(len));
     }
     for len in LENGTHS {
-        send(run, format!("a TCP segment in a frame of {len}"), segment(len.min(65_549), 5));
-        send(run, format!("a question to DNS in a frame of {len}"), datagram(len, 5, [4_000, 53]));
-        send(run, format!("a datagram in a frame of {len}"), datagram(len, 5, [4_000, 4_001]));
+        send(
+            run,
+            format!("a TCP segment in a frame of {len}"),
+            segment(len.min(65_549), 5),
+        );
+        send(
+            run,
+            format!("a question to DNS in a frame of {len}"),
+            datagram(len, 5, [4_000, 53]),
+        );
+        send(
+            run,
+            format!("a datagram in a frame of {len}"),
+            datagram(len, 5, [4_000, 4_001]),
+        );
         send(run, format!("zeros in a frame of {len}"), vec![0; len]);
     }
 }
@@ -110,11 +143,20 @@ fn read(run: Run, words: String, frame: Vec<u8>) {
 fn readings(run: Run) {
     for len in LENGTHS {
         for words in 5..16 {
-            let told = |what: &str| format!("{what} in a frame of {len}, header length {}", 4 * words);
+            let told =
+                |what: &str| format!("{what} in a frame of {len}, header length {}", 4 * words);
             read(run, told("ICMP"), with_sums(ping(len, words)));
-            read(run, told("UDP"), with_sums(datagram(len, words, [4_000, 4_001])));
+            read(
+                run,
+                told("UDP"),
+                with_sums(datagram(len, words, [4_000, 4_001])),
+            );
             read(run, told("TCP"), segment(len, words));
-            read(run, told("another protocol"), with_sums(ipv4(len, words, 99)));
+            read(
+                run,
+                told("another protocol"),
+                with_sums(ipv4(len, words, 99)),
+            );
             read(run, told("DHCP"), with_sums(dhcp(len, words, FROM_SERVER)));
         }
         read(run, format!("ARP in a frame of {len}"), arp(len));
@@ -138,19 +180,40 @@ fn lists_read(run: Run) {
                 for (told, last) in ends {
                     if last.len() <= list {
                         let frame = with_sums(with_last(dhcp(len, words, ports), last));
-                        read(run, format!("DHCP with a list of {list} bytes, {told}, header length {}", 4 * words), frame);
+                        read(
+                            run,
+                            format!(
+                                "DHCP with a list of {list} bytes, {told}, header length {}",
+                                4 * words
+                            ),
+                            frame,
+                        );
                     }
                 }
                 if 0 < list {
                     let mut frame = dhcp(len, words, ports);
                     frame[front] = END;
-                    read(run, format!("DHCP with a list of {list} bytes, the end and its zeros, header length {}", 4 * words), with_sums(frame));
+                    read(
+                        run,
+                        format!(
+                            "DHCP with a list of {list} bytes, the end and its zeros, header length {}",
+                            4 * words
+                        ),
+                        with_sums(frame),
+                    );
                 }
                 let mut frame = dhcp(len, words, ports);
                 for at in (front..len.saturating_sub(1)).step_by(2) {
                     put(&mut frame, at, &[1, 0]);
                 }
-                read(run, format!("DHCP with a list of {list} bytes, options of no length, header length {}", 4 * words), with_sums(frame));
+                read(
+                    run,
+                    format!(
+                        "DHCP with a list of {list} bytes, options of no length, header length {}",
+                        4 * words
+                    ),
+                    with_sums(frame),
+                );
             }
         }
     }
@@ -161,7 +224,14 @@ fn filling(frame: &[u8], end: Option<u32>) -> Store {
     let number = |at: usize| u32::from_be_bytes(frame[at..at + 4].try_into().unwrap());
     let phase = if end.is_some() { 2 } else { 1 };
     Store {
-        state: [phase, number(26), number(30), frame[PROTOCOL_AT].into(), u16_at(frame, 18) as u32, end.unwrap_or(0)],
+        state: [
+            phase,
+            number(26),
+            number(30),
+            frame[PROTOCOL_AT].into(),
+            u16_at(frame, 18) as u32,
+            end.unwrap_or(0),
+        ],
         ..Store::empty()
     }
 }
@@ -175,27 +245,54 @@ fn fragments_of_a_small_frame(run: Run) {
     for first in 0..8_005 {
         for (words, more) in [(5, true), (5, false)] {
             let frame = fragment(1_514, words, first, more);
-            let told = format!("a fragment in a frame of 1514 from block {first} on, {}", if more { "more follow" } else { "the last" });
+            let told = format!(
+                "a fragment in a frame of 1514 from block {first} on, {}",
+                if more { "more follow" } else { "the last" }
+            );
             take(run, &told, Store::empty(), frame.clone());
             for end in [65_512, 65_515, 65_535] {
-                take(run, &format!("{told}, the end known at {end}"), filling(&frame, Some(end)), frame.clone());
+                take(
+                    run,
+                    &format!("{told}, the end known at {end}"),
+                    filling(&frame, Some(end)),
+                    frame.clone(),
+                );
             }
         }
     }
     for words in 5..16 {
         for first in [0, 1, 7, 8, 62, 63, 64] {
             let frame = fragment(1_514, words, first, false);
-            let told = format!("the last fragment in a frame of 1514 from block {first} on, header length {}", 4 * words);
+            let told = format!(
+                "the last fragment in a frame of 1514 from block {first} on, header length {}",
+                4 * words
+            );
             take(run, &told, Store::empty(), frame.clone());
-            take(run, &format!("{told}, all there already"), full(&frame), frame.clone());
+            take(
+                run,
+                &format!("{told}, all there already"),
+                full(&frame),
+                frame.clone(),
+            );
             let whole = with_header_sum(ipv4(1_514, words, ICMP));
-            take(run, &format!("a whole datagram in a frame of 1514, header length {}", 4 * words), Store::empty(), whole);
+            take(
+                run,
+                &format!(
+                    "a whole datagram in a frame of 1514, header length {}",
+                    4 * words
+                ),
+                Store::empty(),
+                whole,
+            );
         }
     }
 }
 
 fn full(frame: &[u8]) -> Store {
-    Store { bits: vec![u64::MAX; BITMAP], ..filling(frame, None) }
+    Store {
+        bits: vec![u64::MAX; BITMAP],
+        ..filling(frame, None)
+    }
 }
 
 /// Fragments that are as long as can be, and a whole train of two.
@@ -205,27 +302,58 @@ fn fragments_of_a_large_frame(run: Run) {
             let most = PAYLOAD_LIMIT.min(65_535 - 4 * words);
             for first in [0, 1, 2, 63, 64, 65, 4_000] {
                 let length = most.min(PAYLOAD_LIMIT - 8 * first);
-                let ends: [Option<u32>; 4] = [None, Some(65_512), Some(65_515), Some(65_535)];
                 for (more, length) in [(true, length / 8 * 8), (false, length)] {
                     let frame = fragment_of(len, words, first, more, 4 * words + length);
-                    let told = format!("a fragment of {length} bytes in a frame of {len} from block {first} on, header length {}", 4 * words);
+                    let told = format!(
+                        "a fragment of {length} bytes in a frame of {len} from block {first} on, header length {}",
+                        4 * words
+                    );
                     let told = told + if more { ", more follow" } else { ", the last" };
                     take(run, &told, Store::empty(), frame.clone());
-                    for end in ends {
-                        take(run, &format!("{told}, the end known: {end:?}"), filling(&frame, end), frame.clone());
+                    for end in [65_512, 65_515, 65_535] {
+                        take(
+                            run,
+                            &format!("{told}, the end known at {end}"),
+                            filling(&frame, Some(end)),
+                            frame.clone(),
+                        );
                     }
-                    take(run, &format!("{told}, all there already"), full(&frame), frame.clone());
+                    take(
+                        run,
+                        &format!("{told}, beside others"),
+                        filling(&frame, None),
+                        frame.clone(),
+                    );
+                    take(
+                        run,
+                        &format!("{told}, all there already"),
+                        full(&frame),
+                        frame.clone(),
+                    );
                 }
             }
             let whole = with_header_sum(ipv4(len, words, ICMP));
-            take(run, &format!("a whole datagram in a frame of {len}, header length {}", 4 * words), Store::empty(), whole);
+            take(
+                run,
+                &format!(
+                    "a whole datagram in a frame of {len}, header length {}",
+                    4 * words
+                ),
+                Store::empty(),
+                whole,
+            );
         }
     }
     // The last three bytes of the longest datagram first, and then all others in one frame of 65,549 bytes.
     let last = fragment_of(60, 5, 8_189, false, 23);
     let mut store = filling(&last, Some(PAYLOAD_LIMIT as u32));
     store.bits[BITMAP - 1] = 1 << 61;
-    take(run, "all but the last three bytes of the longest datagram, which came first", store, fragment_of(65_549, 5, 0, true, 65_532));
+    take(
+        run,
+        "all but the last three bytes of the longest datagram, which came first",
+        store,
+        fragment_of(65_549, 5, 0, true, 65_532),
+    );
 }
 
 /// The payload or data of frames of the two lengths, the longest that is taken, and one byte more.
@@ -233,51 +361,237 @@ fn builders(run: Run) {
     let byte = |len: usize| (0..len).map(|at| (at * 7) as u8).collect::<Vec<u8>>();
     for n in [0, 1, 3, 4, 5, 1_480, PAYLOAD_LIMIT, PAYLOAD_LIMIT + 1] {
         let told = format!("a payload of {n} bytes");
-        run(told, Call::MakeIpFrame { payload: byte(n), room: ROOM });
+        run(
+            told,
+            Call::MakeIpFrame {
+                payload: byte(n),
+                room: ROOM,
+            },
+        );
     }
     for n in [0, 1, 3, 4, 5, 1_472, 65_507, 65_527, 65_528] {
-        run(format!("data of {n} bytes"), Call::MakeUdpPayload { data: byte(n), room: 65_535 });
+        run(
+            format!("data of {n} bytes"),
+            Call::MakeUdpPayload {
+                data: byte(n),
+                room: 65_535,
+            },
+        );
     }
     for flags in [0x10, 0x12, 0x02, 0xff] {
         let options = if flags & 2 != 0 { 8 } else { 0 };
-        for n in [0, 1, 3, 4, 5, 1_460 - options, 65_495 - options, 65_496 - options] {
-            let told = format!("data of {n} bytes{}", if options == 8 { " with SYN" } else { "" });
-            run(told, Call::MakeTcpFrame { flags, data: byte(n), room: ROOM });
+        for n in [
+            0,
+            1,
+            3,
+            4,
+            5,
+            1_460 - options,
+            65_495 - options,
+            65_496 - options,
+        ] {
+            let told = format!(
+                "data of {n} bytes{}",
+                if options == 8 { " with SYN" } else { "" }
+            );
+            run(
+                told,
+                Call::MakeTcpFrame {
+                    flags,
+                    data: byte(n),
+                    room: ROOM,
+                },
+            );
         }
     }
-    run("no room".to_string(), Call::MakeIpFrame { payload: byte(1_480), room: 1_513 });
-    run("no room".to_string(), Call::MakeUdpPayload { data: byte(1_472), room: 1_479 });
-    run("no room".to_string(), Call::MakeTcpFrame { flags: 0, data: byte(1_460), room: 1_513 });
+    run(
+        "no room".to_string(),
+        Call::MakeIpFrame {
+            payload: byte(1_480),
+            room: 1_513,
+        },
+    );
+    run(
+        "no room".to_string(),
+        Call::MakeUdpPayload {
+            data: byte(1_472),
+            room: 1_479,
+        },
+    );
+    run(
+        "no room".to_string(),
+        Call::MakeTcpFrame {
+            flags: 0,
+            data: byte(1_460),
+            room: 1_513,
+        },
+    );
 }
 
 /// Lengths around each step of the sum, for bytes that sum to the most and to nothing.
 fn checksums(run: Run) {
     let near = |n: usize| n.saturating_sub(5)..n + 6;
     let lengths = (0..70).chain([1_514, 65_549, 70_000, 200_000, 1_000_003]);
-    let lengths = lengths.chain(near(65_536)).chain(near(PIECE)).chain(near(2 * PIECE)).chain(near(7 * PIECE));
+    let lengths = lengths
+        .chain(near(65_536))
+        .chain(near(PIECE))
+        .chain(near(2 * PIECE))
+        .chain(near(7 * PIECE));
     for n in lengths {
         for byte in [0, 255] {
-            run(format!("{n} bytes"), Call::Checksum { data: vec![byte; n] });
+            run(
+                format!("{n} bytes"),
+                Call::Checksum {
+                    data: vec![byte; n],
+                },
+            );
         }
+    }
+}
+
+/// Each kind of call at every length up to somewhat past 1,514 bytes.
+fn every_length(run: Run) {
+    for len in 0..1_700 {
+        let bytes = vec![0x5a; len];
+        run(
+            format!("{len} bytes"),
+            Call::Checksum {
+                data: bytes.clone(),
+            },
+        );
+        run(
+            format!("a payload of {len} bytes"),
+            Call::MakeIpFrame {
+                payload: bytes.clone(),
+                room: ROOM,
+            },
+        );
+        run(
+            format!("data of {len} bytes"),
+            Call::MakeUdpPayload {
+                data: bytes.clone(),
+                room: ROOM,
+            },
+        );
+        for flags in [0x10, 0x12] {
+            run(
+                format!("data of {len} bytes, flags {flags}"),
+                Call::MakeTcpFrame {
+                    flags,
+                    data: bytes.clone(),
+                    room: ROOM,
+                },
+            );
+        }
+        send(run, format!("{len} bytes"), bytes);
+        if len < 42 {
+            continue;
+        }
+        for words in [1, 3, 5, 6] {
+            send(
+                run,
+                format!("a ping in a frame of {len}, header length {}", 4 * words),
+                ping(len, words),
+            );
+        }
+        for words in [5, 6] {
+            read(
+                run,
+                format!("ICMP in a frame of {len}"),
+                with_sums(ping(len, words)),
+            );
+            take_every_length(run, len, words);
+        }
+        if len < 54 {
+            continue;
+        }
+        read(
+            run,
+            format!("UDP in a frame of {len}"),
+            with_sums(datagram(len, 5, [4_000, 4_001])),
+        );
+        read(run, format!("TCP in a frame of {len}"), segment(len, 5));
+        if len < 22 + FIXED + 3 + 20 {
+            continue;
+        }
+        for words in [0, 5] {
+            send(
+                run,
+                format!("DHCP, all pads, in a frame of {len}"),
+                dhcp_of_guest(len, words),
+            );
+            send(
+                run,
+                format!("DHCP, a discover, in a frame of {len}"),
+                with_last(dhcp_of_guest(len, words), &[53, 1, 1]),
+            );
+        }
+        read(
+            run,
+            format!("DHCP, all pads, in a frame of {len}"),
+            with_sums(dhcp(len, 5, FROM_GUEST)),
+        );
+    }
+}
+
+fn take_every_length(run: Run, len: usize, words: usize) {
+    for (first, more) in [(0, true), (63, true), (63, false), (8_000, false)] {
+        let told = format!(
+            "a fragment in a frame of {len} from block {first} on, {}",
+            if more { "more follow" } else { "the last" }
+        );
+        take(
+            run,
+            &told,
+            Store::empty(),
+            fragment(len, words, first, more),
+        );
     }
 }
 
 fn releases(run: Run) {
     for bits in [0, u64::MAX] {
-        let store = Store { bits: vec![bits; BITMAP], state: [3, 1, 2, 3, 4, 5], ..Store::empty() };
+        let store = Store {
+            bits: vec![bits; BITMAP],
+            state: [3, 1, 2, 3, 4, 5],
+            ..Store::empty()
+        };
         run("a store at its size".to_string(), Call::Release { store });
     }
-    for (bytes, bits) in [(PAYLOAD_LIMIT, 0), (PAYLOAD_LIMIT, 127), (PAYLOAD_LIMIT, 129), (PAYLOAD_LIMIT, 4_096), (0, 128), (65_516, 128)] {
-        let store = Store { bytes: vec![0; bytes], bits: vec![1; bits], ..Store::empty() };
-        run(format!("a store of {bytes} bytes and {bits} words"), Call::Release { store: store.clone() });
+    for (bytes, bits) in [
+        (PAYLOAD_LIMIT, 0),
+        (PAYLOAD_LIMIT, 127),
+        (PAYLOAD_LIMIT, 129),
+        (PAYLOAD_LIMIT, 4_096),
+        (0, 128),
+        (65_516, 128),
+    ] {
+        let store = Store {
+            bytes: vec![0; bytes],
+            bits: vec![1; bits],
+            ..Store::empty()
+        };
+        run(
+            format!("a store of {bytes} bytes and {bits} words"),
+            Call::Release {
+                store: store.clone(),
+            },
+        );
         let frame = fragment(1_514, 5, 0, true);
-        run(format!("a store of {bytes} bytes and {bits} words"), Call::Take { store, frame });
+        run(
+            format!("a store of {bytes} bytes and {bits} words"),
+            Call::Take { store, frame },
+        );
     }
 }
 
 fn makings(run: Run) {
     for mask in [[255, 255, 255, 0], [255, 0, 255, 0], [0; 4]] {
-        let call = Call::MakeGuest { gateway: GATEWAY, guest: GUEST, mask };
+        let call = Call::MakeGuest {
+            gateway: GATEWAY,
+            guest: GUEST,
+            mask,
+        };
         run(format!("the mask {mask:?}"), call);
     }
 }

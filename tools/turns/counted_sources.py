@@ -2,12 +2,13 @@
 
 1. `ghost use` lines and contracts (`requires { .. }`, `ensures { .. }`) are taken out: they are for the proof, and no code.
 2. Every struct and enum gets `#[derive(Clone, Copy)]`: in Rattle such values are copied as they are used.
-3. `std::num::` becomes `rattle_num::`: the functions that the library names there are Rattle's own, and are taken from the kit like the rest.
+3. `std::num::` becomes `rattle_num::`: the functions that the library names there are Rattle's own, taken from the kit as they are.
 4. `extern "C"` becomes `extern "C-unwind"`, so that a sum that overflows ends the call and not the program.
 5. A loop's body starts with `turns::turn(K);`, the body of its function with `turns::run(K);`, and the body of a function that calls itself,
    by way of others or not, with `let _call = turns::call(K);`.
 
-Nothing else is changed: names, numbers, conditions, order and crates stay as they are. Of the kit only the functions that the library names are taken.
+Nothing else is changed: names, numbers, conditions, order and crates stay as they are. Of the kit just the functions that the library names are
+taken: `bytes::copy` and two that wrap.
 """
 import re
 import subprocess
@@ -219,6 +220,15 @@ def listed(name, counted):
     return f"pub const {name}: [(&str, &str); {len(counted)}] = [\n{rows}];\n"
 
 
+def longest_piece(crates):
+    """The constant of the crate `sums`, of which the formula for a checksum speaks."""
+    text = next(crate.texts["lib.rt"] for crate in crates if crate.name == "sums")
+    found = re.search(r"^const PIECE: usize = [0-9_]+;$", text, flags=re.M)
+    if not found:
+        raise CannotRun("crates/sums/src/lib.rt has no `const PIECE`, the longest piece that is summed with no fold")
+    return f"pub {found[0]}\n"
+
+
 def driver_of(repository, kit, folder, shipped=None):
     """Writes the library with counters into `folder` and compiles it with the driver, and with the shipped library's object where that is given;
     hands back the program, the loops and the recursions."""
@@ -226,8 +236,8 @@ def driver_of(repository, kit, folder, shipped=None):
     crates = kit_crates(kit, crates) + crates
     loops, recursions = with_counters(crates)
     here = Path(__file__).parent
-    counters = (here / "turns.rs").read_text() + "\n" + listed("LOOPS", loops) + listed("RECURSIONS", recursions)
-    (folder / "turns.rs").write_text(counters)
+    counters = [(here / "turns.rs").read_text(), listed("LOOPS", loops), listed("RECURSIONS", recursions), longest_piece(crates)]
+    (folder / "turns.rs").write_text("\n".join(counters))
     compiled(["--crate-type", "rlib", "--crate-name", "turns", "--out-dir", folder, folder / "turns.rs"], folder)
     kits = [KIT_CRATE_OF_BYTES, KIT_CRATE_OF_NUMBERS]
     for crate in crates:
@@ -238,10 +248,6 @@ def driver_of(repository, kit, folder, shipped=None):
         externs = [word for below in ["turns", *(kits if crate.name not in kits else []), *crate.needs]
                    for word in ("--extern", f"{below}={folder}/lib{below}.rlib")]
         compiled(["--crate-type", "rlib", "--crate-name", crate.name, "--out-dir", folder, *externs, sources / "lib.rs"], folder)
-    piece = re.search(r"^const PIECE: usize = ([0-9_]+);", crates_text(crates, "sums"), flags=re.M)
-    if not piece:
-        raise CannotRun("crates/sums/src/lib.rt has no `const PIECE`, the longest piece that is summed with no fold")
-    (folder / "piece.rs").write_text(f"pub const PIECE: usize = {piece[1]};\n")
     program = folder / "driver"
     externs = [word for name in ("turns", ROOT_CRATE, "record") for word in ("--extern", f"{name}={folder}/lib{name}.rlib")]
     for source in here.glob("*.rs"):
@@ -250,7 +256,3 @@ def driver_of(repository, kit, folder, shipped=None):
     beside = ["--cfg", "shipped", "-C", f"link-arg={shipped}"] if shipped else []
     compiled(["--crate-name", "driver", *externs, *beside, folder / "main.rs", "-o", program], folder)
     return program, loops, recursions
-
-
-def crates_text(crates, name):
-    return next(text for crate in crates if crate.name == name for text in crate.texts.values())

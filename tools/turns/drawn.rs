@@ -4,10 +4,10 @@ use crate::built::Run;
 use crate::calls::*;
 use crate::frames::*;
 
-const CALLS: usize = 60_000;
-const LARGE_CALLS: usize = 1_500;
-const TRAINS: usize = 1_500;
-const STEPS: [(usize, usize); 2] = [(1_514, 12_000), (65_549, 700)];
+const CALLS: usize = 150_000;
+const LARGE_CALLS: usize = 3_000;
+const TRAINS: usize = 4_000;
+const STEPS: [(usize, usize); 2] = [(1_514, 20_000), (65_549, 1_500)];
 const SEARCHES: usize = 3;
 
 pub struct Draws(u64);
@@ -33,8 +33,12 @@ impl Draws {
         match self.below(4) {
             0 => vec![0; len],
             1 => (0..len).map(|_| self.byte()).collect(),
-            2 => (0..len).map(|_| if self.below(40) == 0 { self.byte() } else { 0 }).collect(),
-            _ => (0..len).map(|_| self.one_of(&[0, 0, 1, 1, 2, 3, MESSAGE_TYPE, 12, END])).collect(),
+            2 => (0..len)
+                .map(|_| if self.below(40) == 0 { self.byte() } else { 0 })
+                .collect(),
+            _ => (0..len)
+                .map(|_| self.one_of(&[0, 0, 1, 1, 2, 3, MESSAGE_TYPE, 12, END]))
+                .collect(),
         }
     }
 }
@@ -75,7 +79,11 @@ fn frame(draws: &mut Draws, len: usize) -> Vec<u8> {
     if len < 42 {
         let mut frame = draws.bytes(len);
         if 14 <= len {
-            frame[TYPE_AT..ETHERNET].copy_from_slice(&draws.one_of(&[[8, 0], [8, 6], [0x86, 0xdd]]));
+            frame[TYPE_AT..ETHERNET].copy_from_slice(&draws.one_of(&[
+                [8, 0],
+                [8, 6],
+                [0x86, 0xdd],
+            ]));
         }
         return frame;
     }
@@ -100,20 +108,53 @@ fn frame(draws: &mut Draws, len: usize) -> Vec<u8> {
         frame[start + 12] = draws.one_of(&[0x50, 0x50, 0xf0, 0x40]);
     }
     if protocol == UDP && start + 8 <= len {
-        let ports = if is_dhcp { draws.one_of(&[[68, 67], [68, 67], [67, 68]]) } else { [4_000, draws.one_of(&[53, 99])] };
-        let stated = draws.one_of(&[len - start, len - start, len - start, 65_535, len - start - 1, 8, 7]).min(65_535);
-        put(&mut frame, start, &[0, ports[0] as u8, 0, ports[1] as u8, (stated / 256) as u8, (stated % 256) as u8]);
+        let ports = if is_dhcp {
+            draws.one_of(&[[68, 67], [68, 67], [67, 68]])
+        } else {
+            [4_000, draws.one_of(&[53, 99])]
+        };
+        let stated = draws
+            .one_of(&[
+                len - start,
+                len - start,
+                len - start,
+                65_535,
+                len - start - 1,
+                8,
+                7,
+            ])
+            .min(65_535);
+        put(
+            &mut frame,
+            start,
+            &[
+                0,
+                ports[0] as u8,
+                0,
+                ports[1] as u8,
+                (stated / 256) as u8,
+                (stated % 256) as u8,
+            ],
+        );
         if ports[0] == 4_000 {
             put(&mut frame, start, &4_000u16.to_be_bytes());
         }
         if start + 8 + FIXED <= len {
             let any = draws.byte();
-            put(&mut frame, start + 8, &[draws.one_of(&[1, 1, 2, any]), 1, 6]);
+            put(
+                &mut frame,
+                start + 8,
+                &[draws.one_of(&[1, 1, 2, any]), 1, 6],
+            );
             put(&mut frame, start + 8 + COOKIE_AT, &COOKIE);
             let rest = len - start - 8 - FIXED;
             if 4 <= rest && draws.below(2) == 0 {
                 let at = len - 1 - draws.below(rest.min(40) - 3);
-                put(&mut frame, at - 3, &[MESSAGE_TYPE, 1, draws.one_of(&[1, 3, 8, 9]), END]);
+                put(
+                    &mut frame,
+                    at - 3,
+                    &[MESSAGE_TYPE, 1, draws.one_of(&[1, 3, 8, 9]), END],
+                );
             }
         }
     }
@@ -139,23 +180,51 @@ fn call(draws: &mut Draws, len: usize) -> Call {
     let room = draws.one_of(&[65_549, 65_549, 65_549, 2_048, 342, 341, 42, 41, 0, any]);
     let n = len.saturating_sub(draws.below(60));
     match draws.below(12) {
-        0..5 => Call::Send { frame: frame(draws, len), room },
-        5..8 => Call::Read { frame: frame(draws, len) },
-        8 => Call::Checksum { data: draws.bytes(len) },
-        9 => Call::MakeIpFrame { payload: draws.bytes(n), room },
-        10 => Call::MakeUdpPayload { data: draws.bytes(n), room },
-        _ => Call::MakeTcpFrame { flags: draws.byte(), data: draws.bytes(n), room },
+        0..5 => Call::Send {
+            frame: frame(draws, len),
+            room,
+        },
+        5..8 => Call::Read {
+            frame: frame(draws, len),
+        },
+        8 => Call::Checksum {
+            data: draws.bytes(len),
+        },
+        9 => Call::MakeIpFrame {
+            payload: draws.bytes(n),
+            room,
+        },
+        10 => Call::MakeUdpPayload {
+            data: draws.bytes(n),
+            room,
+        },
+        _ => Call::MakeTcpFrame {
+            flags: draws.byte(),
+            data: draws.bytes(n),
+            room,
+        },
     }
 }
 
 /// Fragments of a datagram or two, drawn one after the other into one store, which now and then is released.
 fn train(draws: &mut Draws, number: usize, run: Run) {
     let mut store = Store::empty();
-    let lens = draws.one_of(&[[60, 100], [600, 1_514], [1_514, 1_514], [9_000, 20_000], [40_000, 65_549]]);
+    let lens = draws.one_of(&[
+        [60, 100],
+        [600, 1_514],
+        [1_514, 1_514],
+        [9_000, 20_000],
+        [40_000, 65_549],
+    ]);
     for step in 0..12 {
         if draws.below(12) == 0 {
-            let call = Call::Release { store: store.clone() };
-            if let Some((outcome, _)) = run(format!("drawn train {number}, released at step {step}"), call) {
+            let call = Call::Release {
+                store: store.clone(),
+            };
+            if let Some((outcome, _)) = run(
+                format!("drawn train {number}, released at step {step}"),
+                call,
+            ) {
                 kept(&mut store, outcome);
             }
         }
@@ -169,7 +238,10 @@ fn train(draws: &mut Draws, number: usize, run: Run) {
             let any = draws.below(65_536) as u16;
             put(&mut frame, 16, &any.to_be_bytes());
         }
-        let call = Call::Take { store: store.clone(), frame: with_header_sum(frame) };
+        let call = Call::Take {
+            store: store.clone(),
+            frame: with_header_sum(frame),
+        };
         if let Some((outcome, _)) = run(format!("drawn train {number}, step {step}"), call) {
             kept(&mut store, outcome);
         }
@@ -185,7 +257,10 @@ fn kept(store: &mut Store, outcome: Outcome) {
 }
 
 fn send_of(_: &mut Draws, frame: Vec<u8>) -> Call {
-    Call::Send { frame, room: 65_549 }
+    Call::Send {
+        frame,
+        room: 65_549,
+    }
 }
 
 fn read_of(_: &mut Draws, frame: Vec<u8>) -> Call {
@@ -198,15 +273,32 @@ fn take_of(draws: &mut Draws, frame: Vec<u8>) -> Call {
     let any = draws.below(65_536) as u32;
     let phase = draws.one_of(&[0, 1, 2, 2, 3]);
     let end = draws.one_of(&[65_515, 65_535, any]);
-    store.state = [phase, number(26), number(30), frame[PROTOCOL_AT].into(), u16_at(&frame, 18) as u32, end];
+    store.state = [
+        phase,
+        number(26),
+        number(30),
+        frame[PROTOCOL_AT].into(),
+        u16_at(&frame, 18) as u32,
+        end,
+    ];
     if draws.below(4) == 0 {
         store.bits[draws.below(BITMAP)] = 1 << draws.below(64);
     }
-    Call::Take { store, frame: with_header_sum(frame) }
+    Call::Take {
+        store,
+        frame: with_header_sum(frame),
+    }
 }
 
 /// Starts from a drawn frame, changes a few places at a time, and goes on from what takes no fewer turns.
-fn climb(draws: &mut Draws, len: usize, steps: usize, number: usize, of: fn(&mut Draws, Vec<u8>) -> Call, run: Run) {
+fn climb(
+    draws: &mut Draws,
+    len: usize,
+    steps: usize,
+    number: usize,
+    of: fn(&mut Draws, Vec<u8>) -> Call,
+    run: Run,
+) {
     let mut best = frame(draws, len);
     let mut most = 0;
     for step in 0..steps {
@@ -216,12 +308,28 @@ fn climb(draws: &mut Draws, len: usize, steps: usize, number: usize, of: fn(&mut
             let far = draws.below(len);
             let at = draws.one_of(&[near, near, 14, 16, 17, 20, 21, 38, 39, far]);
             let any = draws.byte();
-            next[at] = draws.one_of(&[any, any, 0, 1, 8, UDP, TCP, MESSAGE_TYPE, END, 0x44, 0x43, 0x45, 0x4f, 0x20]);
+            next[at] = draws.one_of(&[
+                any,
+                any,
+                0,
+                1,
+                8,
+                UDP,
+                TCP,
+                MESSAGE_TYPE,
+                END,
+                0x44,
+                0x43,
+                0x45,
+                0x4f,
+                0x20,
+            ]);
         }
         if draws.below(3) > 0 {
             next = with_sums(next);
         }
-        let words = format!("a search for more turns in frames of {len}, search {number}, step {step}");
+        let words =
+            format!("a search for more turns in frames of {len}, search {number}, step {step}");
         if let Some((_, turns)) = run(words, of(draws, next.clone())) {
             if most <= turns {
                 (best, most) = (next, turns);

@@ -61,7 +61,11 @@ pub fn arp(len: usize) -> Vec<u8> {
 pub fn ipv4(len: usize, words: usize, protocol: u8) -> Vec<u8> {
     let mut frame = ethernet([8, 0], len);
     frame[ETHERNET] = 0x40 + words as u8;
-    put(&mut frame, 16, &((len - ETHERNET).min(65_535) as u16).to_be_bytes());
+    put(
+        &mut frame,
+        16,
+        &((len - ETHERNET).min(65_535) as u16).to_be_bytes(),
+    );
     frame[22] = 64;
     frame[PROTOCOL_AT] = protocol;
     put(&mut frame, 26, &GUEST);
@@ -88,7 +92,11 @@ pub fn datagram(len: usize, words: usize, ports: [u16; 2]) -> Vec<u8> {
     let start = payload_at(&frame);
     put(&mut frame, start, &ports[0].to_be_bytes());
     put(&mut frame, start + 2, &ports[1].to_be_bytes());
-    put(&mut frame, start + 4, &((len - start).min(65_535) as u16).to_be_bytes());
+    put(
+        &mut frame,
+        start + 4,
+        &((len - start).min(65_535) as u16).to_be_bytes(),
+    );
     frame
 }
 
@@ -137,12 +145,13 @@ pub fn with_sums(frame: Vec<u8>) -> Vec<u8> {
     let mut frame = with_header_sum(frame);
     let start = payload_at(&frame);
     let protocol = frame[PROTOCOL_AT];
-    let at = start + match protocol {
-        ICMP => 2,
-        UDP => 6,
-        TCP => 16,
-        _ => return frame,
-    };
+    let at = start
+        + match protocol {
+            ICMP => 2,
+            UDP => 6,
+            TCP => 16,
+            _ => return frame,
+        };
     if frame.len() < at + 2 {
         return frame;
     }
@@ -151,7 +160,11 @@ pub fn with_sums(frame: Vec<u8>) -> Vec<u8> {
     let pseudo = [&frame[26..34], &[0, protocol], &size].concat();
     let before: &[u8] = if protocol == ICMP { &[] } else { &pseudo };
     let sum = 65_535 - folded(&[before, &frame[start..]]);
-    let sum = if sum == 0 && protocol == UDP { 65_535 } else { sum };
+    let sum = if sum == 0 && protocol == UDP {
+        65_535
+    } else {
+        sum
+    };
     put(&mut frame, at, &sum.to_be_bytes());
     frame
 }
@@ -170,7 +183,13 @@ pub fn fragment(len: usize, words: usize, first_block: usize, more: bool) -> Vec
 }
 
 /// The same with this total length.
-pub fn fragment_of(len: usize, words: usize, first_block: usize, more: bool, total: usize) -> Vec<u8> {
+pub fn fragment_of(
+    len: usize,
+    words: usize,
+    first_block: usize,
+    more: bool,
+    total: usize,
+) -> Vec<u8> {
     let mut frame = ipv4(len, words, ICMP);
     put(&mut frame, 16, &(total as u16).to_be_bytes());
     let field = first_block as u16 + if more { 0x2000 } else { 0 };

@@ -3,9 +3,11 @@
 mod at_most;
 mod built;
 mod calls;
+mod counted;
 mod drawn;
 mod frames;
-mod piece;
+#[cfg(shipped)]
+mod shipped;
 
 use at_most::{Turns, at_most};
 use calls::{Call, Outcome};
@@ -31,6 +33,10 @@ struct Tally {
     calls: usize,
     /// By what is counted, the column and where the input comes from.
     most: BTreeMap<(String, usize, &'static str), Most>,
+    /// How often each function gave each answer; a checksum is no answer.
+    answers: BTreeMap<(&'static str, u32), usize>,
+    /// By the kind of a call for which there is an upper bound, whether a built input takes so many turns.
+    reached: BTreeMap<&'static str, bool>,
     differences: usize,
 }
 
@@ -44,15 +50,20 @@ impl Tally {
 
     fn note(&mut self, what: String, column: usize, count: u64, words: &str) {
         let most = self.most.entry((what, column, self.origin)).or_default();
-        if most.count < count || most.words.is_empty() {
-            *most = Most { count, words: words.to_string() };
+        if most.count < count {
+            *most = Most {
+                count,
+                words: words.to_string(),
+            };
         }
     }
 
     fn note_all(&mut self, call: &Call, taken: &Taken, words: &str) {
         let length = call.frame_length();
         for column in 0..COLUMNS.len() {
-            let belongs = LENGTHS_OF_COLUMNS.get(column).is_none_or(|of| length.is_none_or(|length| length == *of));
+            let belongs = LENGTHS_OF_COLUMNS
+                .get(column)
+                .is_none_or(|of| length.is_none_or(|length| length == *of));
             if !belongs {
                 continue;
             }
@@ -62,9 +73,19 @@ impl Tally {
             }
             for (number, deepest) in taken.deepest.iter().enumerate() {
                 self.note(format!("deepest\t{number}"), column, *deepest, &full);
-                self.note(format!("calls\t{number}"), column, taken.calls[number], &full);
+                self.note(
+                    format!("calls\t{number}"),
+                    column,
+                    taken.calls[number],
+                    &full,
+                );
             }
-            self.note(format!("call\t{}", call.function()), column, taken.whole(), words);
+            self.note(
+                format!("call\t{}", call.function()),
+                column,
+                taken.whole(),
+                words,
+            );
         }
     }
 
@@ -81,20 +102,42 @@ impl Tally {
         self.note_all(&call, &taken, &words);
         match at_most(&call, &outcome) {
             Turns::Exactly(turns) if turns as u64 != whole => {
-                self.differs(&words, &call, format!("{whole} turns, and by the formula {turns}"));
+                self.differs(
+                    &words,
+                    &call,
+                    format!("{whole} turns, and by the formula {turns}"),
+                );
             }
-            Turns::AtMost(turns) if (turns as u64) < whole => {
-                self.differs(&words, &call, format!("{whole} turns, and by the formula at most {turns}"));
+            Turns::AtMost(kind, turns) => {
+                if (turns as u64) < whole {
+                    self.differs(
+                        &words,
+                        &call,
+                        format!("{whole} turns, and by the formula at most {turns}"),
+                    );
+                }
+                *self.reached.entry(kind).or_default() |=
+                    self.origin == "built" && turns as u64 == whole;
             }
             _ => {}
+        }
+        if !matches!(call, Call::Checksum { .. }) {
+            *self
+                .answers
+                .entry((call.function(), outcome.number))
+                .or_default() += 1;
         }
         if let Call::Checksum { data } = &call {
             let loops: Vec<String> = taken.longest_run.iter().map(u64::to_string).collect();
             println!("length\t{}\t{whole}\t{}", data.len(), loops.join(","));
         }
         #[cfg(shipped)]
-        if call.run(&calls::ShippedLibrary) != outcome {
-            self.differs(&words, &call, "the library with counters does not answer as the shipped one");
+        if call.run(&shipped::ShippedLibrary) != outcome {
+            self.differs(
+                &words,
+                &call,
+                "the library with counters does not answer as the shipped one",
+            );
         }
         Some((outcome, whole))
     }
@@ -102,14 +145,27 @@ impl Tally {
 
 fn main() {
     std::panic::set_hook(Box::new(|_| {}));
-    let mut tally = Tally { origin: "built", ..Tally::default() };
+    let mut tally = Tally {
+        origin: "built",
+        ..Tally::default()
+    };
     built::each(&mut |words, call| tally.run(words, call));
     println!("calls\tbuilt\t{}", tally.calls);
     (tally.origin, tally.calls) = ("drawn", 0);
     drawn::each(&mut |words, call| tally.run(words, call));
     println!("calls\tdrawn\t{}", tally.calls);
     for ((what, column, origin), most) in &tally.most {
-        println!("most\t{what}\t{}\t{origin}\t{}\t{}", COLUMNS[*column], most.count, most.words);
+        println!(
+            "most\t{what}\t{}\t{origin}\t{}\t{}",
+            COLUMNS[*column], most.count, most.words
+        );
+    }
+    for ((function, number), times) in &tally.answers {
+        println!("answers\t{function}\t{number}\t{times}");
+    }
+    for (kind, _) in tally.reached.iter().filter(|(_, is_reached)| !**is_reached) {
+        tally.differences += 1;
+        println!("difference\t{kind}: no built input takes as many turns as the formula allows");
     }
     println!("differences\t{}", tally.differences);
 }

@@ -69,14 +69,26 @@ impl Taken {
 }
 
 pub fn start() {
-    for counters in [&TURNS, &TURNS_OF_RUN, &LONGEST_RUN, &CALLS, &DEPTH, &DEEPEST] {
-        counters.iter().for_each(|counter| counter.store(0, Relaxed));
+    for counters in [
+        &TURNS,
+        &TURNS_OF_RUN,
+        &LONGEST_RUN,
+        &CALLS,
+        &DEPTH,
+        &DEEPEST,
+    ] {
+        counters
+            .iter()
+            .for_each(|counter| counter.store(0, Relaxed));
     }
 }
 
 pub fn counted() -> Taken {
     let read = |counters: &[AtomicU64; MOST], len: usize| {
-        counters[..len].iter().map(|counter| counter.load(Relaxed)).collect()
+        counters[..len]
+            .iter()
+            .map(|counter| counter.load(Relaxed))
+            .collect()
     };
     Taken {
         turns: read(&TURNS, LOOPS.len()),
@@ -86,4 +98,4 @@ pub fn counted() -> Taken {
     }
 }
 
-// What has a counter, in the order of their numbers; behind this line it is written by counted_sources.py.
+// Behind this line counted_sources.py writes what has a counter, LOOPS and RECURSIONS, in the order of the counters, and PIECE of `sums`.
