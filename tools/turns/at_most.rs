@@ -128,13 +128,13 @@ fn take(state: [u32; 6], frame: &[u8], answer: u32) -> Turns {
     let (first, is_last) = (u16_at(frame, 20) % 8_192, frame[20] & 0x20 == 0);
     let stop = (8 * first + length).div_ceil(8);
     assert!(8 * first + length <= PAYLOAD_LIMIT);
-    let words = stop.div_ceil(64) - first / 64;
+    let bitmap_words = stop.div_ceil(64) - first / 64;
     let is_end_known = state[0] == 2;
     if answer == OVERLAP {
-        return Exactly(header / 4 + words);
+        return Exactly(header / 4 + bitmap_words);
     }
     if answer != STORED && answer != COMPLETE {
-        return Exactly(header / 4 + words + if is_end_known { 0 } else { 128 - stop / 64 });
+        return Exactly(header / 4 + bitmap_words + if is_end_known { 0 } else { 128 - stop / 64 });
     }
     let known_end = (state[5] % 65_536) as usize;
     let to_the_end = match (is_last, is_end_known) {
@@ -142,5 +142,5 @@ fn take(state: [u32; 6], frame: &[u8], answer: u32) -> Turns {
         (false, true) => known_end.div_ceil(8).div_ceil(64),
         (false, false) => 0,
     };
-    Exactly(header / 4 + length + 2 * words + to_the_end)
+    Exactly(header / 4 + length + 2 * bitmap_words + to_the_end)
 }

@@ -10,7 +10,7 @@ const ROOM: usize = 65_549;
 const FROM_GUEST: [u16; 2] = [68, 67];
 const FROM_SERVER: [u16; 2] = [67, 68];
 
-/// Runs a call, told in these words, and hands back its outcome and its turns; nothing where it ended in a panic.
+/// Runs a call, told so, and hands back its outcome and its turns; nothing where it ended in a panic.
 pub type Run<'a> = &'a mut dyn FnMut(String, Call) -> Option<(Outcome, u64)>;
 
 pub fn each(run: Run) {
@@ -28,14 +28,14 @@ pub fn each(run: Run) {
     makings(run);
 }
 
-fn send(run: Run, words: String, frame: Vec<u8>) {
-    run(words, Call::Send { frame, room: ROOM });
+fn send(run: Run, told: String, frame: Vec<u8>) {
+    run(told, Call::Send { frame, room: ROOM });
 }
 
 /// Echo requests behind every header length, in frames of each length and in frames that hold the longest payload.
 fn pings(run: Run) {
-    for words in 1..16 {
-        let start = 14 + 4 * words;
+    for header_words in 1..16 {
+        let start = 14 + 4 * header_words;
         for len in LENGTHS
             .into_iter()
             .chain([60, start + PAYLOAD_LIMIT, start + PAYLOAD_LIMIT + 1])
@@ -46,9 +46,9 @@ fn pings(run: Run) {
             let told = format!(
                 "a ping of {} bytes in a frame of {len}, header length {}",
                 len - start,
-                4 * words
+                4 * header_words
             );
-            send(run, told, ping(len, words));
+            send(run, told, ping(len, header_words));
         }
     }
     let frame = ping(1_514, 5);
@@ -69,13 +69,13 @@ fn dhcp_sent(run: Run) {
         ("pads, then a code alone", &[53]),
         ("pads, then the end", &[END]),
     ];
-    for words in (0..16).filter(|words| *words != 2) {
+    for header_words in (0..16).filter(|header_words| *header_words != 2) {
         for len in LENGTHS {
             for (told, last) in ends {
-                let frame = with_last(dhcp_of_guest(len, words), last);
+                let frame = with_last(dhcp_of_guest(len, header_words), last);
                 let told = format!(
                     "DHCP, {told}, in a frame of {len}, header length {}",
-                    4 * words
+                    4 * header_words
                 );
                 send(run, told, frame);
             }
@@ -102,10 +102,10 @@ fn dhcp_sent(run: Run) {
 
 /// With a header length of 0 the datagram starts where the IPv4 header does: port 68 is the bytes 00 44, and the protocol lies in the message.
 /// With 4 the protocol is the low byte of the datagram's length, and with 8 it would be the low byte of its port.
-fn dhcp_of_guest(len: usize, words: usize) -> Vec<u8> {
-    let mut frame = dhcp(len, words, FROM_GUEST);
+fn dhcp_of_guest(len: usize, header_words: usize) -> Vec<u8> {
+    let mut frame = dhcp(len, header_words, FROM_GUEST);
     frame[PROTOCOL_AT] = UDP;
-    if words == 1 {
+    if header_words == 1 {
         frame[PROTOCOL_AT - 1] = 255;
     }
     frame
@@ -119,7 +119,7 @@ fn other_frames(run: Run) {
         send(
             run,
             format!("a TCP segment in a frame of {len}"),
-            segment(len.min(65_549), 5),
+            segment(len, 5),
         );
         send(
             run,
@@ -135,29 +135,37 @@ fn other_frames(run: Run) {
     }
 }
 
-fn read(run: Run, words: String, frame: Vec<u8>) {
-    run(words, Call::Read { frame });
+fn read(run: Run, told: String, frame: Vec<u8>) {
+    run(told, Call::Read { frame });
 }
 
 /// Frames that the grammar takes, with every length of header.
 fn readings(run: Run) {
     for len in LENGTHS {
-        for words in 5..16 {
-            let told =
-                |what: &str| format!("{what} in a frame of {len}, header length {}", 4 * words);
-            read(run, told("ICMP"), with_sums(ping(len, words)));
+        for header_words in 5..16 {
+            let told = |what: &str| {
+                format!(
+                    "{what} in a frame of {len}, header length {}",
+                    4 * header_words
+                )
+            };
+            read(run, told("ICMP"), with_sums(ping(len, header_words)));
             read(
                 run,
                 told("UDP"),
-                with_sums(datagram(len, words, [4_000, 4_001])),
+                with_sums(datagram(len, header_words, [4_000, 4_001])),
             );
-            read(run, told("TCP"), segment(len, words));
+            read(run, told("TCP"), segment(len, header_words));
             read(
                 run,
                 told("another protocol"),
-                with_sums(ipv4(len, words, 99)),
+                with_sums(ipv4(len, header_words, 99)),
             );
-            read(run, told("DHCP"), with_sums(dhcp(len, words, FROM_SERVER)));
+            read(
+                run,
+                told("DHCP"),
+                with_sums(dhcp(len, header_words, FROM_SERVER)),
+            );
         }
         read(run, format!("ARP in a frame of {len}"), arp(len));
     }
@@ -172,37 +180,37 @@ fn lists_read(run: Run) {
         ("pads, then a type", &[53, 1, 1]),
         ("pads, then the end", &[END]),
     ];
-    for words in 5..16 {
-        let front = 14 + 4 * words + 8 + FIXED;
+    for header_words in 5..16 {
+        let front = 14 + 4 * header_words + 8 + FIXED;
         for list in [0, 4, 5, 60, 1_192, 1_231, 1_232, 1_233] {
             let len = front + list;
             for ports in [FROM_GUEST, FROM_SERVER] {
                 for (told, last) in ends {
                     if last.len() <= list {
-                        let frame = with_sums(with_last(dhcp(len, words, ports), last));
+                        let frame = with_sums(with_last(dhcp(len, header_words, ports), last));
                         read(
                             run,
                             format!(
                                 "DHCP with a list of {list} bytes, {told}, header length {}",
-                                4 * words
+                                4 * header_words
                             ),
                             frame,
                         );
                     }
                 }
                 if 0 < list {
-                    let mut frame = dhcp(len, words, ports);
+                    let mut frame = dhcp(len, header_words, ports);
                     frame[front] = END;
                     read(
                         run,
                         format!(
                             "DHCP with a list of {list} bytes, the end and its zeros, header length {}",
-                            4 * words
+                            4 * header_words
                         ),
                         with_sums(frame),
                     );
                 }
-                let mut frame = dhcp(len, words, ports);
+                let mut frame = dhcp(len, header_words, ports);
                 for at in (front..len.saturating_sub(1)).step_by(2) {
                     put(&mut frame, at, &[1, 0]);
                 }
@@ -210,7 +218,7 @@ fn lists_read(run: Run) {
                     run,
                     format!(
                         "DHCP with a list of {list} bytes, options of no length, header length {}",
-                        4 * words
+                        4 * header_words
                     ),
                     with_sums(frame),
                 );
@@ -236,15 +244,15 @@ fn filling(frame: &[u8], end: Option<u32>) -> Store {
     }
 }
 
-fn take(run: Run, words: &str, store: Store, frame: Vec<u8>) {
-    run(words.to_string(), Call::Take { store, frame });
+fn take(run: Run, told: &str, store: Store, frame: Vec<u8>) {
+    run(told.to_string(), Call::Take { store, frame });
 }
 
 /// A frame of 1,514 bytes at each place in a datagram, as its last fragment and as another, into an empty store and beside known ends.
 fn fragments_of_a_small_frame(run: Run) {
     for first in 0..8_005 {
-        for (words, more) in [(5, true), (5, false)] {
-            let frame = fragment(1_514, words, first, more);
+        for more in [true, false] {
+            let frame = fragment(1_514, 5, first, more);
             let told = format!(
                 "a fragment in a frame of 1514 from block {first} on, {}",
                 if more { "more follow" } else { "the last" }
@@ -260,12 +268,12 @@ fn fragments_of_a_small_frame(run: Run) {
             }
         }
     }
-    for words in 5..16 {
+    for header_words in 5..16 {
         for first in [0, 1, 7, 8, 62, 63, 64] {
-            let frame = fragment(1_514, words, first, false);
+            let frame = fragment(1_514, header_words, first, false);
             let told = format!(
                 "the last fragment in a frame of 1514 from block {first} on, header length {}",
-                4 * words
+                4 * header_words
             );
             take(run, &told, Store::empty(), frame.clone());
             take(
@@ -274,12 +282,12 @@ fn fragments_of_a_small_frame(run: Run) {
                 full(&frame),
                 frame.clone(),
             );
-            let whole = with_header_sum(ipv4(1_514, words, ICMP));
+            let whole = with_header_sum(ipv4(1_514, header_words, ICMP));
             take(
                 run,
                 &format!(
                     "a whole datagram in a frame of 1514, header length {}",
-                    4 * words
+                    4 * header_words
                 ),
                 Store::empty(),
                 whole,
@@ -298,15 +306,16 @@ fn full(frame: &[u8]) -> Store {
 /// Fragments that are as long as can be, and a whole train of two.
 fn fragments_of_a_large_frame(run: Run) {
     for len in [65_549, 70_000, 200_000] {
-        for words in 5..16 {
-            let most = PAYLOAD_LIMIT.min(65_535 - 4 * words);
+        for header_words in 5..16 {
+            let most = PAYLOAD_LIMIT.min(65_535 - 4 * header_words);
             for first in [0, 1, 2, 63, 64, 65, 4_000] {
                 let length = most.min(PAYLOAD_LIMIT - 8 * first);
                 for (more, length) in [(true, length / 8 * 8), (false, length)] {
-                    let frame = fragment_of(len, words, first, more, 4 * words + length);
+                    let frame =
+                        fragment_of(len, header_words, first, more, 4 * header_words + length);
                     let told = format!(
                         "a fragment of {length} bytes in a frame of {len} from block {first} on, header length {}",
-                        4 * words
+                        4 * header_words
                     );
                     let told = told + if more { ", more follow" } else { ", the last" };
                     take(run, &told, Store::empty(), frame.clone());
@@ -332,12 +341,12 @@ fn fragments_of_a_large_frame(run: Run) {
                     );
                 }
             }
-            let whole = with_header_sum(ipv4(len, words, ICMP));
+            let whole = with_header_sum(ipv4(len, header_words, ICMP));
             take(
                 run,
                 &format!(
                     "a whole datagram in a frame of {len}, header length {}",
-                    4 * words
+                    4 * header_words
                 ),
                 Store::empty(),
                 whole,
@@ -487,20 +496,23 @@ fn every_length(run: Run) {
         if len < 42 {
             continue;
         }
-        for words in [1, 3, 5, 6] {
+        for header_words in [1, 3, 5, 6] {
             send(
                 run,
-                format!("a ping in a frame of {len}, header length {}", 4 * words),
-                ping(len, words),
+                format!(
+                    "a ping in a frame of {len}, header length {}",
+                    4 * header_words
+                ),
+                ping(len, header_words),
             );
         }
-        for words in [5, 6] {
+        for header_words in [5, 6] {
             read(
                 run,
                 format!("ICMP in a frame of {len}"),
-                with_sums(ping(len, words)),
+                with_sums(ping(len, header_words)),
             );
-            take_every_length(run, len, words);
+            take_every_length(run, len, header_words);
         }
         if len < 54 {
             continue;
@@ -514,16 +526,16 @@ fn every_length(run: Run) {
         if len < 22 + FIXED + 3 + 20 {
             continue;
         }
-        for words in [0, 5] {
+        for header_words in [0, 5] {
             send(
                 run,
                 format!("DHCP, all pads, in a frame of {len}"),
-                dhcp_of_guest(len, words),
+                dhcp_of_guest(len, header_words),
             );
             send(
                 run,
                 format!("DHCP, a discover, in a frame of {len}"),
-                with_last(dhcp_of_guest(len, words), &[53, 1, 1]),
+                with_last(dhcp_of_guest(len, header_words), &[53, 1, 1]),
             );
         }
         read(
@@ -534,7 +546,7 @@ fn every_length(run: Run) {
     }
 }
 
-fn take_every_length(run: Run, len: usize, words: usize) {
+fn take_every_length(run: Run, len: usize, header_words: usize) {
     for (first, more) in [(0, true), (63, true), (63, false), (8_000, false)] {
         let told = format!(
             "a fragment in a frame of {len} from block {first} on, {}",
@@ -544,7 +556,7 @@ fn take_every_length(run: Run, len: usize, words: usize) {
             run,
             &told,
             Store::empty(),
-            fragment(len, words, first, more),
+            fragment(len, header_words, first, more),
         );
     }
 }
@@ -572,14 +584,14 @@ fn releases(run: Run) {
             ..Store::empty()
         };
         run(
-            format!("a store of {bytes} bytes and {bits} words"),
+            format!("a store of {bytes} bytes and {bits} words of bits"),
             Call::Release {
                 store: store.clone(),
             },
         );
         let frame = fragment(1_514, 5, 0, true);
         run(
-            format!("a store of {bytes} bytes and {bits} words"),
+            format!("a store of {bytes} bytes and {bits} words of bits"),
             Call::Take { store, frame },
         );
     }

@@ -93,8 +93,8 @@ fn frame(draws: &mut Draws, len: usize) -> Vec<u8> {
     let any = draws.byte();
     let protocol = draws.one_of(&[ICMP, TCP, UDP, UDP, UDP, any]);
     let any = draws.below(16);
-    let words = draws.one_of(&[5, 5, 5, 6, 15, 0, 1, 3, any]);
-    let mut frame = ipv4(len, words, protocol);
+    let header_words = draws.one_of(&[5, 5, 5, 6, 15, 0, 1, 3, any]);
+    let mut frame = ipv4(len, header_words, protocol);
     let start = payload_at(&frame).min(len);
     let rest = draws.bytes(len - start);
     put(&mut frame, start, &rest);
@@ -159,9 +159,9 @@ fn frame(draws: &mut Draws, len: usize) -> Vec<u8> {
         }
     }
     // What the payload was written over.
-    if words < 5 {
+    if header_words < 5 {
         frame[PROTOCOL_AT] = protocol;
-        frame[ETHERNET] = frame[ETHERNET] & 0xf0 | words as u8;
+        frame[ETHERNET] = frame[ETHERNET] & 0xf0 | header_words as u8;
     }
     match draws.below(4) {
         0 => frame,
@@ -231,8 +231,13 @@ fn train(draws: &mut Draws, number: usize, run: Run) {
         let any = draws.below(8_192);
         let first = draws.one_of(&[any, any % 64, any % 1_024, step * 185 % 8_192]);
         let any = draws.below(16);
-        let words = draws.one_of(&[5, 5, 5, 5, 15, any]);
-        let mut frame = fragment(lens[draws.below(2)], words, first, draws.below(3) > 0);
+        let header_words = draws.one_of(&[5, 5, 5, 5, 15, any]);
+        let mut frame = fragment(
+            lens[draws.below(2)],
+            header_words,
+            first,
+            draws.below(3) > 0,
+        );
         frame[19] = if draws.below(20) == 0 { 1 } else { 0 };
         if draws.below(8) == 0 {
             let any = draws.below(65_536) as u16;
@@ -328,9 +333,9 @@ fn climb(
         if draws.below(3) > 0 {
             next = with_sums(next);
         }
-        let words =
+        let told =
             format!("a search for more turns in frames of {len}, search {number}, step {step}");
-        if let Some((_, turns)) = run(words, of(draws, next.clone())) {
+        if let Some((_, turns)) = run(told, of(draws, next.clone())) {
             if most <= turns {
                 (best, most) = (next, turns);
             }

@@ -57,10 +57,10 @@ pub fn arp(len: usize) -> Vec<u8> {
     frame
 }
 
-/// An IPv4 frame of `len` bytes to the gateway whose header length is `words` of four bytes, which may be too few for a header.
-pub fn ipv4(len: usize, words: usize, protocol: u8) -> Vec<u8> {
+/// An IPv4 frame of `len` bytes to the gateway whose header length is so many words of four bytes, which may be too few for a header.
+pub fn ipv4(len: usize, header_words: usize, protocol: u8) -> Vec<u8> {
     let mut frame = ethernet([8, 0], len);
-    frame[ETHERNET] = 0x40 + words as u8;
+    frame[ETHERNET] = 0x40 + header_words as u8;
     put(
         &mut frame,
         16,
@@ -78,17 +78,17 @@ pub fn payload_at(frame: &[u8]) -> usize {
     ETHERNET + 4 * usize::from(frame[ETHERNET] & 15)
 }
 
-/// An echo request whose payload starts behind so many words; with four words or fewer fields of the header lie in it.
-pub fn ping(len: usize, words: usize) -> Vec<u8> {
-    let mut frame = ipv4(len, words, ICMP);
+/// An echo request whose payload starts behind so many words; with four or fewer, fields of the header lie in it.
+pub fn ping(len: usize, header_words: usize) -> Vec<u8> {
+    let mut frame = ipv4(len, header_words, ICMP);
     let start = payload_at(&frame);
     frame[start] = 8;
     frame
 }
 
 /// A datagram from port to port which runs to the frame's end, or as far as its length field reaches.
-pub fn datagram(len: usize, words: usize, ports: [u16; 2]) -> Vec<u8> {
-    let mut frame = ipv4(len, words, UDP);
+pub fn datagram(len: usize, header_words: usize, ports: [u16; 2]) -> Vec<u8> {
+    let mut frame = ipv4(len, header_words, UDP);
     let start = payload_at(&frame);
     put(&mut frame, start, &ports[0].to_be_bytes());
     put(&mut frame, start + 2, &ports[1].to_be_bytes());
@@ -111,12 +111,12 @@ pub fn data_of(frame: &[u8]) -> Option<(usize, usize)> {
 }
 
 /// A DHCP message from port to port whose list of options is all pads.
-pub fn dhcp(len: usize, words: usize, ports: [u16; 2]) -> Vec<u8> {
-    let mut frame = datagram(len, words, ports);
+pub fn dhcp(len: usize, header_words: usize, ports: [u16; 2]) -> Vec<u8> {
+    let mut frame = datagram(len, header_words, ports);
     let (start, _) = data_of(&frame).unwrap();
     put(&mut frame, start, &[1]);
     put(&mut frame, start + COOKIE_AT, &COOKIE);
-    if 5 <= words {
+    if 5 <= header_words {
         put(&mut frame, start + 1, &[1, 6]);
     }
     frame
@@ -170,27 +170,33 @@ pub fn with_sums(frame: Vec<u8>) -> Vec<u8> {
 }
 
 /// A TCP segment with a header of 20 bytes, right in every sum.
-pub fn segment(len: usize, words: usize) -> Vec<u8> {
-    let mut frame = ipv4(len, words, TCP);
+pub fn segment(len: usize, header_words: usize) -> Vec<u8> {
+    let mut frame = ipv4(len, header_words, TCP);
     let start = payload_at(&frame);
     frame[start + 12] = 0x50;
     with_sums(frame)
 }
 
 /// A fragment whose packet fills the frame, or is as long as a packet can be: its first block, and whether more follow.
-pub fn fragment(len: usize, words: usize, first_block: usize, more: bool) -> Vec<u8> {
-    fragment_of(len, words, first_block, more, (len - ETHERNET).min(65_535))
+pub fn fragment(len: usize, header_words: usize, first_block: usize, more: bool) -> Vec<u8> {
+    fragment_of(
+        len,
+        header_words,
+        first_block,
+        more,
+        (len - ETHERNET).min(65_535),
+    )
 }
 
 /// The same with this total length.
 pub fn fragment_of(
     len: usize,
-    words: usize,
+    header_words: usize,
     first_block: usize,
     more: bool,
     total: usize,
 ) -> Vec<u8> {
-    let mut frame = ipv4(len, words, ICMP);
+    let mut frame = ipv4(len, header_words, ICMP);
     put(&mut frame, 16, &(total as u16).to_be_bytes());
     let field = first_block as u16 + if more { 0x2000 } else { 0 };
     put(&mut frame, 20, &field.to_be_bytes());

@@ -1,4 +1,5 @@
 //! Runs every input on the library with counters and tells, a line for each, the most turns that were counted. tools/count-turns reads them.
+//! With the word `built` the drawn inputs are left out.
 
 mod at_most;
 mod built;
@@ -24,7 +25,7 @@ const TOLD_DIFFERENCES: usize = 20;
 #[derive(Default)]
 struct Most {
     count: u64,
-    words: String,
+    by: String,
 }
 
 #[derive(Default)]
@@ -41,24 +42,24 @@ struct Tally {
 }
 
 impl Tally {
-    fn differs(&mut self, words: &str, call: &Call, told: impl Display) {
+    fn differs(&mut self, told: &str, call: &Call, why: impl Display) {
         self.differences += 1;
         if self.differences <= TOLD_DIFFERENCES {
-            println!("difference\t{}, {words}: {told}", call.function());
+            println!("difference\t{}, {told}: {why}", call.function());
         }
     }
 
-    fn note(&mut self, what: String, column: usize, count: u64, words: &str) {
+    fn note(&mut self, what: String, column: usize, count: u64, by: &str) {
         let most = self.most.entry((what, column, self.origin)).or_default();
         if most.count < count {
             *most = Most {
                 count,
-                words: words.to_string(),
+                by: by.to_string(),
             };
         }
     }
 
-    fn note_all(&mut self, call: &Call, taken: &Taken, words: &str) {
+    fn note_all(&mut self, call: &Call, taken: &Taken, told: &str) {
         let length = call.frame_length();
         for column in 0..COLUMNS.len() {
             let belongs = LENGTHS_OF_COLUMNS
@@ -67,7 +68,7 @@ impl Tally {
             if !belongs {
                 continue;
             }
-            let full = format!("{}, {words}", call.function());
+            let full = format!("{}, {told}", call.function());
             for (number, longest) in taken.longest_run.iter().enumerate() {
                 self.note(format!("loop\t{number}"), column, *longest, &full);
             }
@@ -84,26 +85,26 @@ impl Tally {
                 format!("call\t{}", call.function()),
                 column,
                 taken.whole(),
-                words,
+                told,
             );
         }
     }
 
-    fn run(&mut self, words: String, call: Call) -> Option<(Outcome, u64)> {
+    fn run(&mut self, told: String, call: Call) -> Option<(Outcome, u64)> {
         self.calls += 1;
         let (outcome, taken) = match call.counted() {
             Ok(counted) => counted,
             Err(panic) => {
-                self.differs(&words, &call, format!("the code panics: {panic}"));
+                self.differs(&told, &call, format!("the code panics: {panic}"));
                 return None;
             }
         };
         let whole = taken.whole();
-        self.note_all(&call, &taken, &words);
+        self.note_all(&call, &taken, &told);
         match at_most(&call, &outcome) {
             Turns::Exactly(turns) if turns as u64 != whole => {
                 self.differs(
-                    &words,
+                    &told,
                     &call,
                     format!("{whole} turns, and by the formula {turns}"),
                 );
@@ -111,7 +112,7 @@ impl Tally {
             Turns::AtMost(kind, turns) => {
                 if (turns as u64) < whole {
                     self.differs(
-                        &words,
+                        &told,
                         &call,
                         format!("{whole} turns, and by the formula at most {turns}"),
                     );
@@ -134,7 +135,7 @@ impl Tally {
         #[cfg(shipped)]
         if call.run(&shipped::ShippedLibrary) != outcome {
             self.differs(
-                &words,
+                &told,
                 &call,
                 "the library with counters does not answer as the shipped one",
             );
@@ -149,15 +150,17 @@ fn main() {
         origin: "built",
         ..Tally::default()
     };
-    built::each(&mut |words, call| tally.run(words, call));
+    built::each(&mut |told, call| tally.run(told, call));
     println!("calls\tbuilt\t{}", tally.calls);
-    (tally.origin, tally.calls) = ("drawn", 0);
-    drawn::each(&mut |words, call| tally.run(words, call));
-    println!("calls\tdrawn\t{}", tally.calls);
+    if std::env::args().nth(1).as_deref() != Some("built") {
+        (tally.origin, tally.calls) = ("drawn", 0);
+        drawn::each(&mut |told, call| tally.run(told, call));
+        println!("calls\tdrawn\t{}", tally.calls);
+    }
     for ((what, column, origin), most) in &tally.most {
         println!(
             "most\t{what}\t{}\t{origin}\t{}\t{}",
-            COLUMNS[*column], most.count, most.words
+            COLUMNS[*column], most.count, most.by
         );
     }
     for ((function, number), times) in &tally.answers {
