@@ -5,7 +5,7 @@ use crate::calls::{Call, Outcome, PAYLOAD_LIMIT};
 use crate::frames::*;
 use turns::PIECE;
 
-const REPLY: u32 = 1;
+pub const REPLY: u32 = 1;
 const PASSED: u32 = 20;
 const STORED: u32 = 21;
 const COMPLETE: u32 = 22;

@@ -191,6 +191,23 @@ impl Call {
         }
     }
 
+    pub fn is_lent_a_frame(&self) -> bool {
+        matches!(
+            self,
+            Call::Send { .. } | Call::Read { .. } | Call::Take { .. }
+        )
+    }
+
+    /// How many bytes a builder or the checksum is to go over.
+    pub fn data_length(&self) -> Option<usize> {
+        match self {
+            Call::Checksum { data } | Call::MakeUdpPayload { data, .. } => Some(data.len()),
+            Call::MakeIpFrame { payload, .. } => Some(payload.len()),
+            Call::MakeTcpFrame { data, flags, .. } => (flags & 2 == 0).then_some(data.len()),
+            _ => None,
+        }
+    }
+
     pub fn run(&self, library: &dyn Library) -> Outcome {
         let (mut values, mut written, mut parts) = ([0; 2], Vec::new(), [0; 13]);
         let (mut record, mut kept, mut reads) = (fresh_record(), None, false);

@@ -59,6 +59,22 @@ impl Tally {
         }
     }
 
+    /// A column is for the calls that are lent a frame; `in any call` is for all.
+    fn note_loops(&mut self, call: &Call, taken: &Taken, column: usize, told: &str) {
+        let by = format!("{}, {told}", call.function());
+        for (number, longest) in taken.longest_run.iter().enumerate() {
+            if call.is_lent_a_frame() {
+                self.note(format!("loop\t{number}"), column, *longest, &by);
+            }
+            self.note(format!("loop in any call\t{number}"), column, *longest, &by);
+        }
+        for (number, deepest) in taken.deepest.iter().enumerate() {
+            self.note(format!("deepest\t{number}"), column, *deepest, &by);
+            let calls = taken.calls[number];
+            self.note(format!("calls\t{number}"), column, calls, &by);
+        }
+    }
+
     fn note_all(&mut self, call: &Call, taken: &Taken, told: &str) {
         let length = call.frame_length();
         for column in 0..COLUMNS.len() {
@@ -68,25 +84,26 @@ impl Tally {
             if !belongs {
                 continue;
             }
-            let full = format!("{}, {told}", call.function());
-            for (number, longest) in taken.longest_run.iter().enumerate() {
-                self.note(format!("loop\t{number}"), column, *longest, &full);
-            }
-            for (number, deepest) in taken.deepest.iter().enumerate() {
-                self.note(format!("deepest\t{number}"), column, *deepest, &full);
-                self.note(
-                    format!("calls\t{number}"),
-                    column,
-                    taken.calls[number],
-                    &full,
-                );
-            }
+            self.note_loops(call, taken, column, told);
             self.note(
                 format!("call\t{}", call.function()),
                 column,
                 taken.whole(),
                 told,
             );
+        }
+    }
+
+    /// By the length that a builder or the checksum goes over: the turns of the call, and of each loop.
+    fn tell_length(&self, call: &Call, outcome: &Outcome, taken: &Taken) {
+        let goes_over = match call {
+            Call::Checksum { .. } => true,
+            _ => outcome.number == at_most::REPLY,
+        };
+        if let (true, "built", Some(n)) = (goes_over, self.origin, call.data_length()) {
+            let loops: Vec<String> = taken.longest_run.iter().map(u64::to_string).collect();
+            let (function, whole) = (call.function(), taken.whole());
+            println!("length\t{function}\t{n}\t{whole}\t{}", loops.join(","));
         }
     }
 
@@ -128,10 +145,7 @@ impl Tally {
                 .entry((call.function(), outcome.number))
                 .or_default() += 1;
         }
-        if let Call::Checksum { data } = &call {
-            let loops: Vec<String> = taken.longest_run.iter().map(u64::to_string).collect();
-            println!("length\t{}\t{whole}\t{}", data.len(), loops.join(","));
-        }
+        self.tell_length(&call, &outcome, &taken);
         #[cfg(shipped)]
         if call.run(&shipped::ShippedLibrary) != outcome {
             self.differs(
