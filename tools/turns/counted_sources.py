@@ -231,8 +231,9 @@ def longest_piece(crates):
 
 def driver_of(repository, kit, folder, shipped=None):
     """Writes the library with counters into `folder` and compiles it with the driver, and with the shipped library's object where that is given;
-    hands back the program, the loops and the recursions."""
+    hands back the program, the loops, the recursions and the names of the exported functions."""
     crates = crates_of(repository)
+    exported = [name for crate in crates for text in crate.texts.values() for name in re.findall(r'extern "C" fn (\w+)', text)]
     crates = kit_crates(kit, crates) + crates
     loops, recursions = with_counters(crates)
     here = Path(__file__).parent
@@ -255,4 +256,4 @@ def driver_of(repository, kit, folder, shipped=None):
             (folder / source.name).write_text(source.read_text())
     beside = ["--cfg", "shipped", "-C", f"link-arg={shipped}"] if shipped else []
     compiled(["--crate-name", "driver", *externs, *beside, folder / "main.rs", "-o", program], folder)
-    return program, loops, recursions
+    return program, loops, recursions, exported
