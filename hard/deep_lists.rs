@@ -50,7 +50,8 @@ pub fn lists() -> impl Iterator<Item = List> {
         .chain(too_long())
 }
 
-/// Pads of every number that fits, with and without a type and END, and with zeros behind END up to the longest list.
+/// Pads of every number that fits, with and without a type and END; and with zeros behind END up to the longest list, all
+/// of them or all but the last.
 fn pads() -> impl Iterator<Item = List> {
     let of_number = |pads: usize| {
         let (zeros, message_type) = (vec![PAD; pads], type_at_turn(pads));
@@ -58,17 +59,27 @@ fn pads() -> impl Iterator<Item = List> {
             format!("a type, {pads} pads, END"),
             &[&message_type, &zeros, &[END]],
         );
-        let mut filled = list(
-            format!("{pads} pads, a type, END, zeros up to the longest list"),
-            &[&zeros, &message_type, &[END]],
+        let behind = vec![0; MOST_PADS.saturating_sub(pads)];
+        let filled = list(
+            format!("{pads} pads, a type, END, {} zeros", behind.len()),
+            &[&zeros, &message_type, &[END], &behind],
         );
-        filled.bytes.resize(filled.bytes.len().max(LONGEST), 0);
+        let not_zero = list(
+            format!("{pads} pads, a type, END, zeros, the last one 1"),
+            &[
+                &zeros,
+                &message_type,
+                &[END],
+                &behind[1.min(behind.len())..],
+                &[1],
+            ],
+        );
         endings(message_type)
             .into_iter()
             .map(move |(behind, ending)| {
                 list(format!("{pads} pads and {behind}"), &[&zeros, &ending])
             })
-            .chain([type_first, filled])
+            .chain([type_first, filled, not_zero])
     };
     (0..=LONGEST).flat_map(of_number).filter(fits)
 }
@@ -84,7 +95,7 @@ fn pads_around_a_type() -> impl Iterator<Item = List> {
     })
 }
 
-/// Every value of the type's byte, behind the most pads and before them.
+/// Every value of the type's byte, behind the most pads and before them, and both before and behind.
 fn types() -> impl Iterator<Item = List> {
     let pads = [PAD; MOST_PADS];
     (0..=255).flat_map(move |value| {
@@ -92,7 +103,10 @@ fn types() -> impl Iterator<Item = List> {
         let words = format!("{MOST_PADS} pads, type {value}, END");
         let behind = list(words, &[&pads, &message_type, &[END]]);
         let words = format!("type {value}, {MOST_PADS} pads, END");
-        [behind, list(words, &[&message_type, &pads, &[END]])]
+        let before = list(words, &[&message_type, &pads, &[END]]);
+        let words = format!("type {value}, {} pads, type {value}, END", MOST_PADS - 3);
+        let twice = [&message_type, &pads[3..], &message_type, &[END]];
+        [behind, before, list(words, &twice)]
     })
 }
 
@@ -147,8 +161,7 @@ fn too_long() -> impl Iterator<Item = List> {
     let numbers = || {
         let few = LONGEST + 1..=LONGEST + 64;
         let many = [1_472, 1_600, 1_800, 2_000, 2_048, 2_100, 4_096, 8_192];
-        few.chain(many)
-            .chain([16_384, 32_768, LONGEST_IN_A_PACKET - 4])
+        few.chain(many).chain([16_384, 32_768, LONGEST_IN_A_PACKET])
     };
     let pads = numbers().map(|pads| {
         let words = format!("{pads} pads and nothing: too long");
@@ -158,7 +171,8 @@ fn too_long() -> impl Iterator<Item = List> {
         let words = format!("{} options of 0 bytes and nothing: too long", number / 2);
         list(words, &[&option(0).repeat(number / 2)])
     });
-    let with_a_type = numbers().map(|pads| {
+    let with_a_type = numbers().map(|number| {
+        let pads = number - 4;
         let words = format!("{pads} pads, a type, END: too long");
         list(words, &[&vec![PAD; pads], &type_at_turn(pads), &[END]])
     });

@@ -206,8 +206,18 @@ fn reads(library: &Library, stack: &Stack) -> bool {
                 said => said,
             };
             if (kind, parts) != expected {
-                println!("another answer than the grammar's: {kind} {parts:?}, not {expected:?}");
-                println!("in {}\n{}", words(), shown(&frame));
+                match expected.0 == kind {
+                    false => println!(
+                        "another kind than the grammar's: {kind}, not {}",
+                        expected.0
+                    ),
+                    true => println!(
+                        "other parts than the grammar's: {parts:?}, not {:?}",
+                        expected.1
+                    ),
+                }
+                println!("in {}", words());
+                println!("{}", shown(&frame));
                 return false;
             }
             if kind == OUTSIDE {
@@ -301,7 +311,8 @@ impl Calls<'_> {
         self.stack.run(&told, bytes, &mut || answer = call());
         self.made += 1;
         if answer != expected {
-            println!("another answer than {expected}: {answer}, in {words}");
+            println!("another answer than {expected}: {answer}");
+            println!("in {words}");
             println!("{}", shown(bytes));
             self.wrong += 1;
         }
