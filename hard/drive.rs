@@ -80,7 +80,9 @@ fn main() {
         "threads" => serving::run(library, plan.threads, plan.calls, plan.seed),
         "stack" => match stack::run(library, plan.stack) {
             Some(good) => good,
-            None => fail("no thread can have such a stack here: a stack has whole pages of 4,096 bytes, 16,384 or more"),
+            None => fail(
+                "no thread can have such a stack here: a stack has whole pages of 4,096 bytes, 16,384 or more",
+            ),
         },
         _ => fail(USAGE),
     };

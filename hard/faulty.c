@@ -69,7 +69,7 @@ struct {
     {"maker_writes_past_the_record", "guards memory"},
     {"maker_writes_on_a_bad_record", "guards memory"},
     {"maker_leaves_the_xid", "guards memory"},
-    {"maker_goes_by_what_stood_there", "guards memory"},
+    {"maker_goes_by_what_stood_there", "guards memory stack_answer"},
     {"maker_looks_at_a_lease_not_named", "guards memory"},
     {"maker_refuses_a_prefix_of_30", "guards memory"},
     {"reads_past_the_frame", "guards memory"},

@@ -328,8 +328,9 @@ impl Calls<'_> {
     }
 
     fn make_guest(&mut self, ip: [u8; 4], expected: u32) {
-        let (mut guest, make, Network { gateway, mask, .. }) =
-            (GUEST, self.library.make_guest, DOCUMENT_01);
+        let (make, Network { gateway, mask, .. }) = (self.library.make_guest, DOCUMENT_01);
+        let mut guest = GUEST;
+        guest.network.lease = 0;
         let [mac, gateway, ip, mask] = [&GUEST_MAC[..], &gateway, &ip, &mask].map(<[u8]>::as_ptr);
         self.ask("yavoledu_make_guest", &[], expected, &mut || unsafe {
             make(&mut guest, mac, gateway, ip, mask, 1, 3_600)
