@@ -28,6 +28,7 @@ pub const WANTED: usize = 65_536;
 const PAGE: usize = 4_096;
 /// The least that a thread can have on x86-64. Every function but the reader takes less than 1 kB.
 const LEAST: usize = 16_384;
+const MOST: usize = 1 << 30;
 const ALTERNATE: usize = 256 * 1024;
 const PAINT: u8 = 0x5a;
 /// Flags and offset, in the IPv4 header of a frame.
@@ -70,7 +71,7 @@ struct Stack {
 impl Stack {
     /// None where a thread can't have a stack of so many bytes.
     fn of(bytes: usize) -> Option<Stack> {
-        if bytes % PAGE != 0 {
+        if bytes % PAGE != 0 || bytes > MOST {
             return None;
         }
         let mut attributes = [0; 16];
@@ -137,7 +138,7 @@ static NOW: AtomicPtr<Job> = AtomicPtr::new(null_mut());
 extern "C" fn start(job: *mut c_void) -> *mut c_void {
     unsafe {
         let job = &mut *job.cast::<Job>();
-        sigaltstack(&job.stack.alternate, null_mut());
+        assert_eq!(sigaltstack(&job.stack.alternate, null_mut()), 0);
         (job.call)();
     }
     null_mut()
