@@ -4,6 +4,7 @@ use std::sync::atomic::{AtomicPtr, Ordering};
 
 use crate::cases::Call;
 use crate::document_01;
+use crate::grammar_01;
 use crate::lending::{Lender, Slot};
 use crate::library::*;
 use crate::making_02;
@@ -406,4 +407,18 @@ pub fn read(
         "a part that is not in the frame",
     )?;
     Ok((kind, parts))
+}
+
+/// What the reader has to answer by document 01's grammar, read a second time: the kind, and the parts where there is one.
+pub fn said_by_the_grammar(frame: &[u8]) -> (u32, Parts) {
+    let mut parts = [0; 13];
+    let Some(reading) = grammar_01::read(frame) else {
+        return (OUTSIDE, parts);
+    };
+    let places = reading.layers.iter().flatten();
+    for (part, place) in parts.iter_mut().zip(places) {
+        *part = *place;
+    }
+    parts[12] = usize::from(reading.message_type.unwrap_or(0));
+    (reading.kind as u32, parts)
 }

@@ -1,9 +1,10 @@
-//! Hard use of the library: hostile frames with every byte around what is lent watched, and threads that serve at once.
-//! hard/guards, hard/memory and hard/threads say how it is run.
+//! Hard use of the library: hostile frames with every byte around what is lent watched, threads that serve at once, and
+//! threads with little stack. hard/guards, hard/memory, hard/threads and hard/stack say how it is run.
 
 include!("of_oracle.rs");
 
 mod calls;
+mod deep_lists;
 mod faults;
 #[allow(dead_code)]
 mod fuzz_input;
@@ -11,6 +12,8 @@ mod lending;
 mod library;
 mod run;
 mod serving;
+mod signals;
+mod stack;
 mod stream;
 
 use std::process::exit;
@@ -20,7 +23,8 @@ use library::SHIPPED;
 
 const USAGE: &str = "usage: drive guards|memory [--frames NUMBER] [--seed NUMBER] [--fault NAME]
        drive threads [--threads NUMBER] [--calls NUMBER] [--seed NUMBER] [--fault NAME]
-       drive faults guards|memory|threads
+       drive stack [--stack BYTES] [--fault NAME]
+       drive faults guards|memory|threads|stack_overflow|stack_answer
        drive seeds FOLDER";
 
 /// What the words ask for.
@@ -28,6 +32,7 @@ struct Plan {
     frames: u64,
     threads: usize,
     calls: usize,
+    stack: usize,
     seed: u64,
     fault: Option<String>,
 }
@@ -73,6 +78,12 @@ fn main() {
         }
         "memory" => fail("this is to be run under valgrind: hard/memory does"),
         "threads" => serving::run(library, plan.threads, plan.calls, plan.seed),
+        "stack" => match stack::run(library, plan.stack) {
+            Some(good) => good,
+            None => fail(
+                "no thread can have such a stack here: a stack has whole pages of 4,096 bytes, 16,384 or more",
+            ),
+        },
         _ => fail(USAGE),
     };
     exit(if good { 0 } else { 1 });
@@ -88,6 +99,7 @@ fn plan_of(words: &[&str]) -> Option<Plan> {
         frames: 1_000_000,
         threads: 8,
         calls: 1_000_000,
+        stack: stack::WANTED,
         seed: 0x7a61_766f_6c65_6475,
         fault: None,
     };
@@ -98,6 +110,7 @@ fn plan_of(words: &[&str]) -> Option<Plan> {
             ("--seed", Some(number)) => plan.seed = number,
             ("--threads", Some(number @ 1..=64)) => plan.threads = number as usize,
             ("--calls", Some(number @ 1..)) => plan.calls = number as usize,
+            ("--stack", Some(number)) => plan.stack = number as usize,
             ("--fault", _) => plan.fault = Some(value.to_string()),
             _ => return None,
         }

@@ -256,15 +256,7 @@ impl Judge {
     }
 
     fn read(&mut self, frame: &[u8]) -> u32 {
-        let mut says = (OUTSIDE, [0; 13]);
-        if let Some(reading) = grammar_01::read(frame) {
-            says.0 = reading.kind as u32;
-            let places = reading.layers.iter().flatten();
-            for (part, place) in says.1.iter_mut().zip(places) {
-                *part = *place;
-            }
-            says.1[12] = usize::from(reading.message_type.unwrap_or(0));
-        }
+        let says = calls::said_by_the_grammar(frame);
         for (name, library) in &LIBRARIES {
             self.lender.go_to(0);
             let ours = calls::read(&mut self.lender, library, frame);

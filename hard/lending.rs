@@ -68,16 +68,16 @@ unsafe extern "C" {
     fn ftruncate(file: i32, len: i64) -> i32;
 }
 
-const NO_ACCESS: i32 = 0;
+pub const NO_ACCESS: i32 = 0;
 const READ: i32 = 1;
-const READ_AND_WRITE: i32 = 1 | 2;
+pub const READ_AND_WRITE: i32 = 1 | 2;
 const SHARED: i32 = 0x01;
-const PRIVATE: i32 = 0x02;
-const AT_THIS_ADDRESS: i32 = 0x10;
-const FROM_NO_FILE: i32 = 0x20;
+pub const PRIVATE: i32 = 0x02;
+pub const AT_THIS_ADDRESS: i32 = 0x10;
+pub const FROM_NO_FILE: i32 = 0x20;
 
 /// A multiple of every machine's page, and more than an index of 16 bits reaches.
-const OUT_OF_REACH: usize = 128 * 1024;
+pub const OUT_OF_REACH: usize = 128 * 1024;
 const LONGEST: usize = 512 * 1024;
 
 /// The same memory twice: as a call sees it, with pages out of reach right before and right behind, and as the one who
@@ -105,7 +105,7 @@ impl Pages {
     }
 }
 
-unsafe fn mapped(at: *mut u8, len: usize, access: i32, kind: i32, file: i32) -> *mut u8 {
+pub unsafe fn mapped(at: *mut u8, len: usize, access: i32, kind: i32, file: i32) -> *mut u8 {
     let address = unsafe { mmap(at, len, access, kind, file, 0) };
     assert!(address as isize != -1, "no memory");
     address

@@ -13,6 +13,7 @@ use crate::gateway_cases::USUAL_ROOM;
 use crate::lending::{Guarded, Lender};
 use crate::library::*;
 use crate::lines::hex;
+use crate::signals::{self, Told};
 use crate::stream::Stream;
 
 const FRAMES_TO_A_BUILDER: u64 = 4;
@@ -174,7 +175,7 @@ fn drawn_plan(draws: &mut Draws) -> Plan {
     }
 }
 
-fn shown(bytes: &[u8]) -> String {
+pub fn shown(bytes: &[u8]) -> String {
     let dots = if bytes.len() > SHOWN { ".." } else { "" };
     let start = hex(&bytes[..bytes.len().min(SHOWN)]);
     format!("{} bytes: {start}{dots}", bytes.len())
@@ -317,49 +318,8 @@ static GUARDED: AtomicPtr<Guarded> = AtomicPtr::new(std::ptr::null_mut());
 
 pub fn run_between_guards(library: &Library, mut lender: Guarded, frames: u64, seed: u64) -> bool {
     GUARDED.store(&mut lender, Ordering::Relaxed);
-    watch_for_faults();
+    signals::watch_for_faults(on_fault, signals::Stack::OfTheCall);
     run(library, &mut lender, frames, seed)
-}
-
-/// glibc's, the same on x86-64 and on Arm.
-#[repr(C)]
-struct Action {
-    handler: extern "C" fn(i32, *const Told, *const u8),
-    mask: [u64; 16],
-    flags: i32,
-    restorer: usize,
-}
-
-#[repr(C)]
-struct Told {
-    number: i32,
-    error: i32,
-    code: i32,
-    address: usize,
-}
-
-const WITH_ADDRESS: i32 = 4;
-/// SIGILL, SIGTRAP, SIGABRT, SIGBUS, SIGFPE and SIGSEGV.
-const FAULTS: [i32; 6] = [4, 5, 6, 7, 8, 11];
-
-unsafe extern "C" {
-    fn sigaction(number: i32, new: *const Action, old: *mut Action) -> i32;
-    fn _exit(status: i32) -> !;
-}
-
-fn watch_for_faults() {
-    let action = Action {
-        handler: on_fault,
-        mask: [0; 16],
-        flags: WITH_ADDRESS,
-        restorer: 0,
-    };
-    for number in FAULTS {
-        assert_eq!(
-            unsafe { sigaction(number, &action, std::ptr::null_mut()) },
-            0
-        );
-    }
 }
 
 /// It prints, which a handler may not do in general; here the program is in the library, or it ends wrongly anyway.
@@ -375,6 +335,6 @@ extern "C" fn on_fault(number: i32, told: *const Told, _: *const u8) {
             }
             None => println!("outside of any call"),
         }
-        _exit(1);
+        signals::end(1);
     }
 }

@@ -156,11 +156,15 @@ enum {
     YAVOLEDU_KIND_OTHER_IPV4 = 6
 };
 
-/* The strict reader (crates/grammar/specs/Grammar.antt is the grammar): the frame's kind, or YAVOLEDU_OUTSIDE, document
+/* yavoledu_read wants 64 kB of stack (65,536 bytes): call it on a thread that has them. It reads a DHCP list of options by
+ * calls inside calls, at most 2,465 deep, and the guest chooses how deep by what it sends. Measured are 39.5 kB on x86-64,
+ * on the deepest list (docs/BENCHMARKS.md); every other call here takes less than 1 kB.
+ *
+ * The strict reader (crates/grammar/specs/Grammar.antt is the grammar): the frame's kind, or YAVOLEDU_OUTSIDE, document
  * 01's 8, on which parts is left as it was. parts has three places for each layer, counted from the frame's first byte:
  * where its header starts, where that stops and its payload starts, where the payload stops. At 0 Ethernet; at 3 IPv4;
  * at 6 ICMP, UDP or TCP; at 9 the DHCP message, whose payload is its options; at 12 the DHCP message type. What a kind
- * doesn't have is 0. A DHCP message of many options takes stack, at most 40 kB; every other call here less than 1 kB. */
+ * doesn't have is 0. */
 uint32_t yavoledu_read(const uint8_t *frame, size_t frame_len, size_t parts[13]);
 
 /* What the calls on a store answer: document 02's refusals, in the order of their tests, and four numbers of ours. */

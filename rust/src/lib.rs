@@ -26,7 +26,8 @@
 //! 52:54:00:00:00:01 on every network. The rules are those of documents 01 and 02, the customer's.
 //!
 //! Beside the gateway stand the builders of frames ([`Guest::make_ip_frame`], [`Guest::make_tcp_frame`], [`make_udp_payload`]),
-//! the [`checksum`], a strict reader ([`read`]), and a store in which fragments are put together ([`Store`]).
+//! the [`checksum`], a strict reader ([`read`], which wants 64 kB of stack), and a store in which fragments are put together
+//! ([`Store`]).
 //!
 //! # What is proved
 //!

@@ -259,19 +259,59 @@ fn a_padded_ping_is_answered_and_is_outside_the_grammar() {
     assert_eq!(verdict, Verdict::Reply(60));
 }
 
-#[test]
-fn the_deepest_list_fits_into_64_kib_of_stack() {
-    // The reader nests a call for each item, and most with pads: 1,232 bytes of options are all that a message may have.
-    let options = [&[53, 1, 1][..], &[0; 1228], &[255]].concat();
-    let frame = from_dhcp_client(&dhcp_message(&options));
-    let reader = thread::Builder::new().stack_size(64 * 1024);
-    let reading = reader.spawn(move || read(&frame)).unwrap().join().unwrap();
-    let expected = Reading::Dhcp {
+/// What is read of a message with these options, 1,232 bytes, in a frame whose IPv4 header has 20 bytes.
+fn longest_message(message_type: u8) -> Reading {
+    Reading::Dhcp {
         ethernet: layer(0, 14, 1514),
         ip: layer(14, 34, 1514),
         datagram: layer(34, 42, 1514),
         message: layer(42, 282, 1514),
-        message_type: 1,
-    };
-    assert_eq!(reading, Some(expected));
+        message_type,
+    }
+}
+
+/// The answer on a thread with 64 KiB of stack, which is what `read` wants.
+fn read_on_64_kib(options: &[u8]) -> Option<Reading> {
+    let frame = from_dhcp_client(&dhcp_message(options));
+    let reader = thread::Builder::new().stack_size(64 * 1024);
+    reader.spawn(move || read(&frame)).unwrap().join().unwrap()
+}
+
+#[test]
+fn the_deepest_lists_fit_into_64_kib_of_stack() {
+    // The reader nests calls for each item, and there are most with pads: 1,232 bytes of options are all that a message may have.
+    for message_type in 1..=8 {
+        let option = [53, 1, message_type];
+        let before = [&option[..], &[0; 1228], &[255]].concat();
+        let behind = [&[0; 1228][..], &option, &[255]].concat();
+        let between = [&[0; 614][..], &option, &[0; 614], &[255]].concat();
+        let empty_options = [&[12, 0].repeat(614)[..], &option, &[255]].concat();
+        for options in [before, behind, between, empty_options] {
+            assert_eq!(
+                read_on_64_kib(&options),
+                Some(longest_message(message_type))
+            );
+        }
+    }
+}
+
+#[test]
+fn the_deepest_lists_that_are_refused_fit_into_64_kib_of_stack() {
+    let no_end = vec![0; 1232];
+    let no_type = [&[0; 1231][..], &[255]].concat();
+    let no_end_behind_a_type = [&[0; 1229][..], &[53, 1, 1]].concat();
+    let empty_options_with_no_end = [12, 0].repeat(616);
+    for options in [
+        no_end,
+        no_type,
+        no_end_behind_a_type,
+        empty_options_with_no_end,
+    ] {
+        assert_eq!(options.len(), 1232);
+        assert_eq!(read_on_64_kib(&options), None);
+    }
+    // A longer list is in no message, so no frame nests deeper.
+    let too_long = [&[0; 1229][..], &[53, 1, 1, 255]].concat();
+    assert_eq!(read_on_64_kib(&too_long), None);
+    assert_eq!(read_on_64_kib(&[0; 60_000]), None);
 }
