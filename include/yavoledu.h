@@ -7,6 +7,8 @@
  *     (The id and the MAC of one record, lent to a builder, do not overlap; a record and its own MAC, lent to make it anew, do.)
  * What is lent to be written may hold anything. No function allocates, keeps what it is lent, has data of its own, or
  * calls anything but memcpy and memset; any number of threads may call at once that lend different memory.
+ * yavoledu_read wants 64 kB of stack, every other less than 1 kB. docs/LOOPS.md has the bound of every loop, and how many
+ * turns a call takes at most.
  *
  * Numbers are the machine's own, ports, sequence numbers, ids and checksums too: do not call htons. Addresses and MACs
  * are bytes in the order of the wire.
