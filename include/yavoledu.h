@@ -159,8 +159,8 @@ enum {
 };
 
 /* yavoledu_read wants 64 kB of stack (65,536 bytes): call it on a thread that has them. It reads a DHCP list of options by
- * calls inside calls, at most 2,465 deep, and the guest chooses how deep by what it sends. Measured are 39.5 kB on x86-64,
- * on the deepest list (docs/BENCHMARKS.md); every other call here takes less than 1 kB.
+ * calls inside calls, at most 2,465 deep, and the guest chooses how deep by what it sends. Measured are 39,512 bytes on
+ * x86-64, on the deepest list (docs/BENCHMARKS.md); every other call here takes less than 1 kB.
  *
  * The strict reader (crates/grammar/specs/Grammar.antt is the grammar): the frame's kind, or YAVOLEDU_OUTSIDE, document
  * 01's 8, on which parts is left as it was. parts has three places for each layer, counted from the frame's first byte:

@@ -134,8 +134,8 @@ pub enum Reading {
 /// Reads a frame strictly; it wants 64 kB of stack (65,536 bytes).
 ///
 /// Call it on a thread that has them. It reads a DHCP list of options by calls inside calls, at most 2,465 deep, and the guest
-/// chooses how deep by what it sends. Measured are 39.5 kB on x86-64, on the deepest list (docs/BENCHMARKS.md); every other
-/// call of this crate takes less than 1 kB.
+/// chooses how deep by what it sends. Measured are 39,512 bytes on x86-64, on the deepest list (docs/BENCHMARKS.md); every
+/// other call of this crate takes less than 1 kB.
 ///
 /// The answer is what the frame is and where its parts are, or `None` where document 01's frame grammar doesn't derive it,
 /// as with a byte too many, a wrong checksum or a fragment.

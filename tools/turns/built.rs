@@ -248,7 +248,11 @@ fn take(run: Run, told: &str, store: Store, frame: Vec<u8>) {
     run(told.to_string(), Call::Take { store, frame });
 }
 
-/// A frame of 1,514 bytes at each place in a datagram, as its last fragment and as another, into an empty store and beside known ends.
+/// In the last word of a bitmap, the bit of the last block that a payload can have.
+const LAST_BLOCK: u64 = 1 << (8_189 % 64);
+
+/// A frame of 1,514 bytes at each place in a datagram, as its last fragment and as another, into an empty store, one in which the last
+/// block has come, and beside known ends.
 fn fragments_of_a_small_frame(run: Run) {
     for first in 0..8_005 {
         for more in [true, false] {
@@ -258,6 +262,14 @@ fn fragments_of_a_small_frame(run: Run) {
                 if more { "more follow" } else { "the last" }
             );
             take(run, &told, Store::empty(), frame.clone());
+            let mut beside = filling(&frame, None);
+            *beside.bits.last_mut().unwrap() = LAST_BLOCK;
+            take(
+                run,
+                &format!("{told}, the last block there"),
+                beside,
+                frame.clone(),
+            );
             for end in [65_512, 65_515, 65_535] {
                 take(
                     run,

@@ -15,9 +15,10 @@ import subprocess
 from dataclasses import dataclass
 from pathlib import Path
 
-ROOT_CRATE = "host"
-KIT_CRATE_OF_BYTES = "bytes"
-KIT_CRATE_OF_NUMBERS = "rattle_num"
+from loops.library import LIBRARY, STANDARD, Library, lines_of_crates
+
+# Rust has a crate of the name that the kit's has.
+NAME_OF_STANDARD = "rattle_num"
 
 
 class CannotRun(Exception):
@@ -35,10 +36,8 @@ class Counted:
 class Crate:
     name: str
     needs: list
-    # The text of each of its files by the file's name; in Rattle, and later in Rust.
+    # The text of each of its files by the file's name, in Rust.
     texts: dict
-    # Where a reader finds the folder of these files.
-    place: str
 
 
 def closing(text, start):
@@ -64,96 +63,38 @@ def without_ghosts(text):
     return text
 
 
-def body_after(text, start):
-    """Where the body opens that stands behind `start`: the first brace outside of brackets."""
-    at = start
-    while text[at] != "{":
-        at = closing(text, at) + 1 if text[at] in "([" else at + 1
-    return at
+class Counters:
+    """What has a counter, in the order of the counters: the loops, and the groups of functions that call each other."""
+
+    def __init__(self, library):
+        counted = [function for function in library.functions if library.is_part(function)]
+        self.numbers, self.loops, self.recursions = {}, [], []
+        for function in counted:
+            for loop in function.loops:
+                self.numbers[function, loop] = len(self.loops)
+                self.loops.append(Counted(function.file, [function.title]))
+        self.cycles = library.cycles()
+        for cycle in self.cycles:
+            self.recursions.append(Counted(cycle[0].file, [function.title for function in cycle]))
+
+    def put_into(self, function, text):
+        """The counters of one function, each with its place in the text of its file."""
+        head = "".join(f" turns::run({self.numbers[function, loop]});" for loop in function.loops)
+        head += "".join(f" let _call = turns::call({number});" for number, cycle in enumerate(self.cycles) if function in cycle)
+        yield function.body_start, head
+        for loop in function.loops:
+            yield text.index("{", loop.end) + 1, f" turns::turn({self.numbers[function, loop]});"
 
 
-def functions_of(text):
-    """Name, start, opening and closing brace of each function in a text without contracts."""
-    seen = plain(text)
-    for found in re.finditer(r"\bfn (\w+)", seen):
-        opening = body_after(seen, found.end())
-        yield found[1], found.start(), opening, closing(seen, opening)
-
-
-def loops_of(text, opening, stop):
-    """Where the body of each loop of a function opens."""
-    seen = plain(text)
-    for found in re.finditer(r"\b(?:while|loop|for)\b", seen[:stop]):
-        if found.start() > opening:
-            yield body_after(seen, found.end())
-
-
-def calls_of(text, opening, stop):
-    return set(re.findall(r"\b(\w+)\(", plain(text)[opening:stop]))
-
-
-def reached(start, edges):
-    """All that is reached from `start` by one step or more."""
-    found, ahead = set(), list(edges.get(start, ()))
-    while ahead:
-        name = ahead.pop()
-        if name not in found:
-            found.add(name)
-            ahead += edges.get(name, ())
-    return found
-
-
-def recursions_of(crate):
-    """The groups of functions of a crate that call themselves or each other, with the file of the first. Crates are built one on another, so no
-    such group spans two."""
-    edges, places = {}, {}
-    for name, text in crate.texts.items():
-        for function, _, opening, stop in functions_of(text):
-            edges.setdefault(function, set()).update(calls_of(text, opening, stop))
-            places.setdefault(function, name)
-    reach = {function: reached(function, edges) for function in edges}
-    groups = []
-    for function in edges:
-        if function in reach[function] and not any(function in group for group, _ in groups):
-            group = [other for other in edges if other in reach[function] and function in reach[other]]
-            groups.append((group, places[function]))
-    return groups
-
-
-def with_counters(crates):
-    """Puts counters into the crates' texts; hands back what has a counter: the loops, and the groups of functions that call each other."""
-    loops, recursions = [], []
-    for crate in crates:
-        groups = recursions_of(crate)
-        for name, text in crate.texts.items():
-            inserted = []
-            for function, _, opening, stop in functions_of(text):
-                head = ""
-                for at in loops_of(text, opening, stop):
-                    inserted.append((at + 1, f" turns::turn({len(loops)});"))
-                    head += f" turns::run({len(loops)});"
-                    loops.append(Counted(f"{crate.place}/{name}", [function]))
-                for number, (group, _) in enumerate(groups):
-                    if function in group:
-                        head += f" let _call = turns::call({len(recursions) + number});"
-                if head:
-                    inserted.append((opening + 1, head))
-            for at, words in sorted(inserted, reverse=True):
-                text = text[:at] + words + text[at:]
-            crate.texts[name] = text
-        recursions += [Counted(f"{crate.place}/{name}", group) for group, name in groups]
-    return loops, recursions
+def with_insertions(text, insertions):
+    for at, words in sorted(insertions, reverse=True):
+        text = text[:at] + words + text[at:]
+    return text
 
 
 def as_rust(text):
-    text = re.sub(r"^((?:pub )?(?:struct|enum) )", r"#[derive(Clone, Copy)]\n\1", text, flags=re.M)
-    return text.replace("std::num::", KIT_CRATE_OF_NUMBERS + "::").replace('extern "C" fn', 'extern "C-unwind" fn')
-
-
-def needs_by_crate(repository):
-    lines = (repository / "crates.txt").read_text().splitlines()
-    pairs = [line.split(":") for line in lines if line.strip() and not line.startswith("#")]
-    return {name: needs.split() for name, needs in pairs}
+    text = re.sub(r"^((?:pub )?(?:struct|enum) )", r"#[derive(Clone, Copy)]\n\1", without_ghosts(text), flags=re.M)
+    return text.replace(f"{STANDARD}::num::", f"{NAME_OF_STANDARD}::").replace('extern "C" fn', 'extern "C-unwind" fn')
 
 
 def crates_below(root, needs):
@@ -171,40 +112,37 @@ def crates_below(root, needs):
     return order
 
 
-def crates_of(repository):
-    needs = needs_by_crate(repository)
-    crates = []
-    for name in crates_below(ROOT_CRATE, needs):
-        folder = repository / "crates" / name / "src"
-        texts = {file.name: without_ghosts(file.read_text()) for file in sorted(folder.glob("*.rt"))}
-        if not texts:
-            raise CannotRun(f"{folder} has no sources")
-        below = [crate for crate in crates_below(name, needs) if crate != name]
-        crates.append(Crate(name, below, texts, f"crates/{name}/src"))
-    return crates
+def functions_in(module):
+    yield from module.functions.values()
+    for _, functions in module.impls:
+        yield from functions
 
 
-def kit_crate(name, place, file, functions):
-    """A crate of those functions of a file of the kit that the library names."""
-    texts = []
-    source = without_ghosts(file.read_text())
-    for function, start, _, stop in functions_of(source):
-        if function in functions:
-            texts.append("pub " + source[start:stop + 1])
-    if len(texts) != len(functions):
-        raise CannotRun(f"{file} has not all of {', '.join(sorted(functions))}")
-    return Crate(name, [], {"lib.rt": "\n\n".join(texts) + "\n"}, place)
+def own_crates(repository, library, counters):
+    """The crates of the repository that the library is built on, as Rust, each behind those that it is built on."""
+    needs = lines_of_crates(repository / "crates.txt")
+    for name in crates_below(LIBRARY, needs):
+        texts = {}
+        for module in library.crates[name].all_modules():
+            text = (repository / module.file).read_text()
+            insertions = [one for function in functions_in(module) for one in counters.put_into(function, text)]
+            texts["/".join(module.path or ("lib",))] = as_rust(with_insertions(text, insertions))
+        yield Crate(name, [crate for crate in crates_below(name, needs) if crate != name], texts)
 
 
-def kit_crates(kit, crates):
-    code = "\n".join(plain(text) for crate in crates for text in crate.texts.values())
-    # The crate `wire` has a module of the same name, which is never named alone.
-    of_bytes = set(re.findall(rf"(?<!:){KIT_CRATE_OF_BYTES}::(\w+)\(", code))
-    of_numbers = set(re.findall(r"\bstd::num::(\w+)", code))
-    return [
-        kit_crate(KIT_CRATE_OF_BYTES, "libs/bytes/src", kit / "libs/bytes/src/lib.rt", of_bytes),
-        kit_crate(KIT_CRATE_OF_NUMBERS, "libs/std/src", kit / "libs/std/src/num.rt", of_numbers),
-    ]
+def kit_crates(kit, library, counters):
+    """Crates of just those functions of the kit that the library reaches."""
+    texts = {}
+    for function in library.functions:
+        if function.is_of_the_kit and library.is_part(function):
+            text = (kit / "libs" / function.file).read_text()
+            start, stop = text.rindex(f"fn {function.name}", 0, function.body_start), closing(plain(text), function.body_start - 1) + 1
+            counted = with_insertions(text[:stop], counters.put_into(function, text))
+            texts.setdefault(function.module.crate, []).append("pub " + counted[start:] + "\n")
+    for name in library.crates:
+        if library.crates[name].is_of_the_kit:
+            rust_name = NAME_OF_STANDARD if name == STANDARD else name
+            yield Crate(rust_name, [], {"lib": as_rust("\n".join(texts.get(name, [])))})
 
 
 def compiled(words, folder):
@@ -221,8 +159,8 @@ def listed(name, counted):
 
 
 def longest_piece(crates):
-    """The constant of the crate `sums`, of which the formula for a checksum speaks."""
-    text = next(crate.texts["lib.rt"] for crate in crates if crate.name == "sums")
+    """The constant of the crate `sums`, around which the lengths of checksums are built."""
+    text = next(crate.texts["lib"] for crate in crates if crate.name == "sums")
     found = re.search(r"^const PIECE: usize = [0-9_]+;$", text, flags=re.M)
     if not found:
         raise CannotRun("crates/sums/src/lib.rt has no `const PIECE`, the longest piece that is summed with no fold")
@@ -232,28 +170,30 @@ def longest_piece(crates):
 def driver_of(repository, kit, folder, shipped=None):
     """Writes the library with counters into `folder` and compiles it with the driver, and with the shipped library's object where that is given;
     hands back the program, the loops, the recursions and the names of the exported functions."""
-    crates = crates_of(repository)
-    exported = [name for crate in crates for text in crate.texts.values() for name in re.findall(r'extern "C" fn (\w+)', text)]
-    crates = kit_crates(kit, crates) + crates
-    loops, recursions = with_counters(crates)
+    library = Library(str(repository), str(kit))
+    if library.faults:
+        raise CannotRun("the sources can't be read: " + ": ".join(map(str, library.faults[0])))
+    counters = Counters(library)
+    of_the_kit = list(kit_crates(kit, library, counters))
+    crates = of_the_kit + list(own_crates(repository, library, counters))
     here = Path(__file__).parent
-    counters = [(here / "turns.rs").read_text(), listed("LOOPS", loops), listed("RECURSIONS", recursions), longest_piece(crates)]
-    (folder / "turns.rs").write_text("\n".join(counters))
+    parts = [(here / "turns.rs").read_text(), listed("LOOPS", counters.loops), listed("RECURSIONS", counters.recursions), longest_piece(crates)]
+    (folder / "turns.rs").write_text("\n".join(parts))
     compiled(["--crate-type", "rlib", "--crate-name", "turns", "--out-dir", folder, folder / "turns.rs"], folder)
-    kits = [KIT_CRATE_OF_BYTES, KIT_CRATE_OF_NUMBERS]
+    kit_names = [crate.name for crate in of_the_kit]
     for crate in crates:
-        sources = folder / crate.name
-        sources.mkdir()
         for name, text in crate.texts.items():
-            (sources / name).with_suffix(".rs").write_text(as_rust(text))
-        externs = [word for below in ["turns", *(kits if crate.name not in kits else []), *crate.needs]
+            file = (folder / crate.name / name).with_suffix(".rs")
+            file.parent.mkdir(parents=True, exist_ok=True)
+            file.write_text(text)
+        externs = [word for below in ["turns", *(kit_names if crate.name not in kit_names else []), *crate.needs]
                    for word in ("--extern", f"{below}={folder}/lib{below}.rlib")]
-        compiled(["--crate-type", "rlib", "--crate-name", crate.name, "--out-dir", folder, *externs, sources / "lib.rs"], folder)
+        compiled(["--crate-type", "rlib", "--crate-name", crate.name, "--out-dir", folder, *externs, folder / crate.name / "lib.rs"], folder)
     program = folder / "driver"
-    externs = [word for name in ("turns", ROOT_CRATE, "record") for word in ("--extern", f"{name}={folder}/lib{name}.rlib")]
+    externs = [word for name in ("turns", LIBRARY, "record") for word in ("--extern", f"{name}={folder}/lib{name}.rlib")]
     for source in here.glob("*.rs"):
         if source.name != "turns.rs":
             (folder / source.name).write_text(source.read_text())
     beside = ["--cfg", "shipped", "-C", f"link-arg={shipped}"] if shipped else []
     compiled(["--crate-name", "driver", *externs, *beside, folder / "main.rs", "-o", program], folder)
-    return program, loops, recursions, exported
+    return program, counters.loops, counters.recursions, [function.name for function in library.exported()]

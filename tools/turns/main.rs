@@ -1,17 +1,17 @@
 //! Runs every input on the library with counters and tells, a line for each, the most turns that were counted. tools/count-turns reads them.
 //! With the word `built` the drawn inputs are left out.
 
-mod at_most;
 mod built;
 mod calls;
 mod counted;
 mod drawn;
 mod frames;
+mod kinds;
 #[cfg(shipped)]
 mod shipped;
 
-use at_most::{Turns, at_most};
 use calls::{Call, Outcome};
+use kinds::{Kind, kind_of};
 use std::collections::BTreeMap;
 use std::fmt::Display;
 use turns::Taken;
@@ -28,6 +28,15 @@ struct Most {
     by: String,
 }
 
+/// How many turns a call took: its function, what came of it, the letters of the formula and the turns.
+type Sample = (
+    &'static str,
+    &'static str,
+    Vec<(char, usize)>,
+    u64,
+    &'static str,
+);
+
 #[derive(Default)]
 struct Tally {
     origin: &'static str,
@@ -36,8 +45,8 @@ struct Tally {
     most: BTreeMap<(String, usize, &'static str), Most>,
     /// How often each function gave each answer; a checksum is no answer.
     answers: BTreeMap<(&'static str, u32), usize>,
-    /// By the kind of a call for which there is an upper bound, whether a built input takes so many turns.
-    reached: BTreeMap<&'static str, bool>,
+    /// What has to fit a formula of the page, and the first input of which it was counted.
+    samples: BTreeMap<Sample, String>,
     differences: usize,
 }
 
@@ -98,7 +107,7 @@ impl Tally {
     fn tell_length(&self, call: &Call, outcome: &Outcome, taken: &Taken) {
         let goes_over = match call {
             Call::Checksum { .. } => true,
-            _ => outcome.number == at_most::REPLY,
+            _ => outcome.number == kinds::REPLY,
         };
         if let (true, "built", Some(n)) = (goes_over, self.origin, call.data_length()) {
             let loops: Vec<String> = taken.longest_run.iter().map(u64::to_string).collect();
@@ -118,27 +127,10 @@ impl Tally {
         };
         let whole = taken.whole();
         self.note_all(&call, &taken, &told);
-        match at_most(&call, &outcome) {
-            Turns::Exactly(turns) if turns as u64 != whole => {
-                self.differs(
-                    &told,
-                    &call,
-                    format!("{whole} turns, and by the formula {turns}"),
-                );
-            }
-            Turns::AtMost(kind, turns) => {
-                if (turns as u64) < whole {
-                    self.differs(
-                        &told,
-                        &call,
-                        format!("{whole} turns, and by the formula at most {turns}"),
-                    );
-                }
-                *self.reached.entry(kind).or_default() |=
-                    self.origin == "built" && turns as u64 == whole;
-            }
-            _ => {}
-        }
+        let Kind { title, letters } = kind_of(&call, &outcome);
+        self.samples
+            .entry((call.function(), title, letters, whole, self.origin))
+            .or_insert_with(|| told.clone());
         if !matches!(call, Call::Checksum { .. }) {
             *self
                 .answers
@@ -180,9 +172,10 @@ fn main() {
     for ((function, number), times) in &tally.answers {
         println!("answers\t{function}\t{number}\t{times}");
     }
-    for (kind, _) in tally.reached.iter().filter(|(_, is_reached)| !**is_reached) {
-        tally.differences += 1;
-        println!("difference\t{kind}: no built input takes as many turns as the formula allows");
+    for ((function, title, letters, turns, origin), by) in &tally.samples {
+        let letters: Vec<String> = letters.iter().map(|(l, n)| format!("{l}={n}")).collect();
+        let letters = letters.join(",");
+        println!("sample\t{function}\t{title}\t{letters}\t{turns}\t{origin}\t{by}");
     }
     println!("differences\t{}", tally.differences);
 }

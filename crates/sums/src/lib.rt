@@ -33,9 +33,9 @@ pub fn sum(start: u16, input: &[u8]) -> u16
     exchanged(folded(total_behind(so_far, &input[at..])))
 }
 
-// The running total behind `piece`: what is folded so far and the words of the piece, added low byte first, an
-// odd last byte as the low half. 256 times this folds to what 256 times the former and the words themselves
-// fold to. With two words a turn the compiler loads eight at once.
+// The running total behind `piece`: what is folded so far and the words of the piece, added low byte first,
+// an odd last byte as the low half. 256 times this folds to what 256 times the former and the words
+// themselves fold to. With two words a turn the compiler loads eight at once.
 fn total_behind(so_far: u16, piece: &[u8]) -> u32
     requires { ⌜ length (now piece) ≤ longestPiece ⌝ }
     ensures { λ r. ⌜ fold (r * 256) ≡ fold («so_far» * 256 + total (now (piece .entry))) ⌝ }
