@@ -6,12 +6,12 @@ mod calls;
 mod counted;
 mod drawn;
 mod frames;
-mod kinds;
+mod rows;
 #[cfg(shipped)]
 mod shipped;
 
 use calls::{Call, Outcome};
-use kinds::{Kind, kind_of};
+use rows::{Row, row_of};
 use std::collections::BTreeMap;
 use std::fmt::Display;
 use turns::Taken;
@@ -107,7 +107,7 @@ impl Tally {
     fn tell_length(&self, call: &Call, outcome: &Outcome, taken: &Taken) {
         let goes_over = match call {
             Call::Checksum { .. } => true,
-            _ => outcome.number == kinds::REPLY,
+            _ => outcome.number == rows::REPLY,
         };
         if let (true, "built", Some(n)) = (goes_over, self.origin, call.data_length()) {
             let loops: Vec<String> = taken.longest_run.iter().map(u64::to_string).collect();
@@ -127,7 +127,7 @@ impl Tally {
         };
         let whole = taken.whole();
         self.note_all(&call, &taken, &told);
-        let Kind { title, letters } = kind_of(&call, &outcome);
+        let Row { title, letters } = row_of(&call, &outcome);
         self.samples
             .entry((call.function(), title, letters, whole, self.origin))
             .or_insert_with(|| told.clone());

@@ -33,6 +33,9 @@ loop-holds c =
 total-behind-requires : tie.Need-total-behind-requires Inv-loop μ-loop
 total-behind-requires c κs = search needs
 
+loop-less : tie.Need-loop-less Inv-loop μ-loop
+loop-less c = search needs
+
 loop-again : tie.Need-loop-again Inv-loop μ-loop
 loop-again c =
     let l = c .before .before .before .before .loop in
@@ -59,5 +62,5 @@ sum-spec =
     tie.close
     (tie.spec Inv-loop μ-loop (λ c κs. search needs) loop-holds (λ c. search needs) (λ c. search needs)
     (λ c. search needs) (λ c. search needs) (λ c. search needs) total-behind-requires (λ c κs. search needs)
-    (λ c. search needs) loop-again (λ c. search needs) (λ c. search needs) (λ c. search needs)
+    loop-less loop-again (λ c. search needs) (λ c. search needs) (λ c. search needs)
     (λ c κs. search needs) (λ c κs. search needs) (λ c κs. search needs) returns)

@@ -19,53 +19,53 @@ const LONGEST_MESSAGE: usize = 1_472;
 const SYN: u8 = 2;
 
 /// A row of the page by its words, and the value of each letter of its formula.
-pub struct Kind {
+pub struct Row {
     pub title: &'static str,
     pub letters: Vec<(char, usize)>,
 }
 
-fn kind(title: &'static str, letters: &[(char, usize)]) -> Kind {
-    Kind {
+fn row(title: &'static str, letters: &[(char, usize)]) -> Row {
+    Row {
         title,
         letters: letters.to_vec(),
     }
 }
 
-pub fn kind_of(call: &Call, outcome: &Outcome) -> Kind {
+pub fn row_of(call: &Call, outcome: &Outcome) -> Row {
     let is_reply = outcome.number == REPLY;
     match call {
         Call::Send { frame, .. } => of_send(frame, is_reply),
         Call::Read { frame } => of_read(frame),
         Call::Take { store, frame } => of_take(store.state, frame, outcome.number),
-        Call::Release { .. } if outcome.number == RELEASED => kind("released", &[]),
-        Call::Release { .. } => kind("refused", &[]),
-        Call::Checksum { data } if data.is_empty() => kind("no byte", &[]),
-        Call::Checksum { data } => kind("n bytes", &[('n', data.len())]),
+        Call::Release { .. } if outcome.number == RELEASED => row("released", &[]),
+        Call::Release { .. } => row("refused", &[]),
+        Call::Checksum { data } if data.is_empty() => row("no byte", &[]),
+        Call::Checksum { data } => row("n bytes", &[('n', data.len())]),
         Call::MakeTcpFrame { flags, data, .. } if is_reply && flags & SYN != 0 => {
-            kind("built, with the SYN flag", &[('n', data.len())])
+            row("built, with the SYN flag", &[('n', data.len())])
         }
         Call::MakeIpFrame { payload: data, .. }
         | Call::MakeUdpPayload { data, .. }
         | Call::MakeTcpFrame { data, .. }
             if is_reply =>
         {
-            kind("built", &[('n', data.len())])
+            row("built", &[('n', data.len())])
         }
         Call::MakeIpFrame { .. } | Call::MakeUdpPayload { .. } | Call::MakeTcpFrame { .. } => {
-            kind("refused", &[])
+            row("refused", &[])
         }
-        Call::MakeGuest { .. } => kind("made or refused", &[]),
+        Call::MakeGuest { .. } => row("made or refused", &[]),
     }
 }
 
-fn of_send(frame: &[u8], is_reply: bool) -> Kind {
+fn of_send(frame: &[u8], is_reply: bool) -> Row {
     let is_ipv4 = 34 <= frame.len() && frame[TYPE_AT..ETHERNET] == [8, 0];
     if !is_ipv4 && is_reply {
-        return kind("ARP that is answered", &[]);
+        return row("ARP that is answered", &[]);
     }
     if is_ipv4 && is_reply && frame[PROTOCOL_AT] == ICMP {
         let n = frame.len() - payload_at(frame);
-        return kind("a ping that is answered", &[('n', n)]);
+        return row("a ping that is answered", &[('n', n)]);
     }
     let data = if is_ipv4 && frame[PROTOCOL_AT] == UDP {
         data_of(frame)
@@ -79,9 +79,9 @@ fn of_send(frame: &[u8], is_reply: bool) -> Kind {
             } else {
                 "DHCP that is not answered"
             };
-            kind(title, &[('m', stop - start - FIXED)])
+            row(title, &[('m', stop - start - FIXED)])
         }
-        _ => kind("anything else", &[]),
+        _ => row("anything else", &[]),
     }
 }
 
@@ -90,31 +90,31 @@ fn ports_of(frame: &[u8]) -> [usize; 2] {
     [u16_at(frame, start), u16_at(frame, start + 2)]
 }
 
-fn of_read(frame: &[u8]) -> Kind {
+fn of_read(frame: &[u8]) -> Row {
     let longest = ETHERNET + usize::from(u16::MAX);
     if !(34..=longest).contains(&frame.len()) || frame[TYPE_AT..ETHERNET] != [8, 0] {
-        return kind("anything else", &[]);
+        return row("anything else", &[]);
     }
     let b = frame.len() - ETHERNET;
     if frame[PROTOCOL_AT] == UDP && payload_at(frame) + 8 <= frame.len() {
         let (ports, data) = (ports_of(frame), frame.len() - payload_at(frame) - 8);
         let is_dhcp = ports == [67, 68] || ports == [68, 67];
         if is_dhcp && (FIXED..=LONGEST_MESSAGE).contains(&data) {
-            return kind("a DHCP message", &[('b', b), ('m', data - FIXED)]);
+            return row("a DHCP message", &[('b', b), ('m', data - FIXED)]);
         }
     }
-    kind("another IPv4 frame", &[('b', b)])
+    row("another IPv4 frame", &[('b', b)])
 }
 
-fn of_take(state: [u32; 6], frame: &[u8], answer: u32) -> Kind {
+fn of_take(state: [u32; 6], frame: &[u8], answer: u32) -> Row {
     if answer == UNFIT {
         let is_summed = 34 <= frame.len();
         let h = if is_summed { header_of(frame) } else { 0 };
-        return kind("refused with 10", &[('h', h)]);
+        return row("refused with 10", &[('h', h)]);
     }
     let h = header_of(frame);
     if answer == PASSED || answer == HELD {
-        return kind("passed, or refused with 11", &[('h', h)]);
+        return row("passed, or refused with 11", &[('h', h)]);
     }
     let n = u16_at(frame, 16) - h;
     let (f, is_last) = (u16_at(frame, 20) % 8_192, frame[20] & 0x20 == 0);
@@ -123,13 +123,13 @@ fn of_take(state: [u32; 6], frame: &[u8], answer: u32) -> Kind {
     let w = s.div_ceil(64) - f / 64;
     let is_end_known = state[0] == END_KNOWN;
     if answer == OVERLAP {
-        return kind("refused with 12", &[('h', h), ('w', w)]);
+        return row("refused with 12", &[('h', h), ('w', w)]);
     }
     if answer != STORED && answer != COMPLETE {
         return if is_end_known {
-            kind("refused with 13, the end known", &[('h', h), ('w', w)])
+            row("refused with 13, the end known", &[('h', h), ('w', w)])
         } else {
-            kind(
+            row(
                 "refused with 13, the end not known",
                 &[('h', h), ('w', w), ('s', s)],
             )
@@ -137,19 +137,19 @@ fn of_take(state: [u32; 6], frame: &[u8], answer: u32) -> Kind {
     }
     let stored = [('h', h), ('n', n), ('w', w)];
     if is_last {
-        return kind(
+        return row(
             "a last fragment that is stored",
             &[&stored[..], &[('s', s)]].concat(),
         );
     }
     if is_end_known {
         let e = ((state[5] % 65_536) as usize).div_ceil(8);
-        return kind(
+        return row(
             "another that is stored, the end known",
             &[&stored[..], &[('e', e)]].concat(),
         );
     }
-    kind("another that is stored, the end not known", &stored)
+    row("another that is stored, the end not known", &stored)
 }
 
 fn header_of(frame: &[u8]) -> usize {
