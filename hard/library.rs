@@ -198,3 +198,45 @@ macro_rules! library {
 
 /// As it ships.
 pub const SHIPPED: Library = library!("");
+
+/// The calls on a store, as they ship: no fault is put around them, so `Library` has none of them.
+#[allow(dead_code)] // by hard/fuzz
+pub mod store {
+    use super::Values;
+
+    /// A store's state: include/yavoledu.h.
+    #[repr(C)]
+    #[derive(Default)]
+    pub struct State(pub [u32; 6]);
+
+    pub const STORE_BYTES: usize = 65_515;
+    pub const STORE_WORDS: usize = 128;
+    pub const UNFIT: u32 = 10;
+    pub const HELD: u32 = 11;
+    pub const OVERLAP: u32 = 12;
+    pub const WRONG_END: u32 = 13;
+    pub const PASSED: u32 = 20;
+    pub const STORED: u32 = 21;
+    pub const COMPLETE: u32 = 22;
+    pub const RELEASED: u32 = 23;
+
+    unsafe extern "C" {
+        pub fn yavoledu_take(
+            state: *mut State,
+            frame: *const u8,
+            frame_len: usize,
+            bytes: *mut u8,
+            bytes_len: usize,
+            bits: *mut u64,
+            bits_len: usize,
+            payload: *mut Values,
+        ) -> u32;
+        pub fn yavoledu_release(
+            state: *mut State,
+            bytes: *const u8,
+            bytes_len: usize,
+            bits: *mut u64,
+            bits_len: usize,
+        ) -> u32;
+    }
+}

@@ -15,9 +15,10 @@ use crate::draws::{BROADCAST_IP, GATEWAY_IP, GUEST_IP, GUEST_MAC};
 use crate::guest_frames::*;
 use crate::lending::*;
 use crate::library;
+use crate::library::store::*;
 use crate::library::{
     BAD_RECORD, CUT_TYPE, DNS, DOCUMENT_01, DROP, Guest, Library, MADE, NO_ROOM, Network, OUTSIDE,
-    Parts, RELAY, REPLY, TOO_LONG, Values,
+    Parts, RELAY, REPLY, TOO_LONG,
 };
 use crate::mended::{dhcp_frame, with_header_sum};
 use crate::run::shown;
@@ -261,41 +262,6 @@ fn reads(library: &Library, stack: &Stack) -> bool {
 }
 
 // The other functions.
-
-/// A store's state, bytes and bits: include/yavoledu.h. `Library` has none of them.
-#[repr(C)]
-#[derive(Default)]
-struct State([u32; 6]);
-const STORE_BYTES: usize = 65_515;
-const STORE_WORDS: usize = 128;
-const UNFIT: u32 = 10;
-const HELD: u32 = 11;
-const OVERLAP: u32 = 12;
-const WRONG_END: u32 = 13;
-const PASSED: u32 = 20;
-const STORED: u32 = 21;
-const COMPLETE: u32 = 22;
-const RELEASED: u32 = 23;
-
-unsafe extern "C" {
-    fn yavoledu_take(
-        state: *mut State,
-        frame: *const u8,
-        frame_len: usize,
-        bytes: *mut u8,
-        bytes_len: usize,
-        bits: *mut u64,
-        bits_len: usize,
-        payload: *mut Values,
-    ) -> u32;
-    fn yavoledu_release(
-        state: *mut State,
-        bytes: *const u8,
-        bytes_len: usize,
-        bits: *mut u64,
-        bits_len: usize,
-    ) -> u32;
-}
 
 /// Calls on a stack, each with the answer that it has to give.
 struct Calls<'a> {
