@@ -3,10 +3,11 @@ use Prim.Native.Nat.{ℕ, zero, suc, _+_, _*_, _-_, _/_, _%_, _≤_, _<_}
 use mathlib.Core.Path.{_≡_, refl, ap, sym, _∙_}
 use mathlib.Core.List.{List, [], _∷_, _++_, append-assoc}
 use native.Mathlib.Omega.{arith}
-use native.Mathlib.Nat.{zero-add}
+use native.Mathlib.Nat.{zero-add, add-assoc}
 use native.Mathlib.Numerals.{add-one, add-two}
-use lib.ListN.{length, take, drop, getD, drop-of-length-le, length-take, length-drop, take-append-drop}
-use lib.Seq.{drop-cons, drop-drop}
+use lib.ListN.{length, drop, getD, drop-of-length-le}
+use lib.Seq.{drop-cons}
+use Rattle.sums.specs.helpers.LowFirst.{two, four}
 use Rattle.sums.specs.Rfc1071.{words, sum, total, fold, checksum, SumsRight}
 
 -- "0 if S is 0"
@@ -39,10 +40,13 @@ fold-most (suc s) = omega arith
 fold-rounds : (s k : ℕ) → 0 < s → fold (s + 65535 * k) ≡ fold s
 fold-rounds s k h = rw (fold-pos s h, fold-pos (s + 65535 * k) (omega arith)) (omega arith)
 
--- nor where there may be nothing, for then `k` is 0
+-- nor where there may be nothing, if then `k` is 0
+pub fold-any-rounds : (s k : ℕ) → (s ≡ 0 → k ≡ 0) → fold (s + 65535 * k) ≡ fold s
+fold-any-rounds zero k h = ap fold (omega (arith, h refl))
+fold-any-rounds (suc s) k h = fold-rounds (suc s) k (omega arith)
+
 pub fold-few-rounds : (s k : ℕ) → k ≤ s → fold (s + 65535 * k) ≡ fold s
-fold-few-rounds zero k h = ap fold (omega arith)
-fold-few-rounds (suc s) k h = fold-rounds (suc s) k (omega arith)
+fold-few-rounds s k h = fold-any-rounds s k (λ e. omega arith)
 
 -- a fold that was already done changes nothing in 256 times it either
 pub fold-scaled : (a b : ℕ) → fold (fold a * 256 + b) ≡ fold (a * 256 + b)
@@ -81,30 +85,27 @@ pub total-none : (s : List ℕ) (i : ℕ) → length s ≤ i → total (drop i s
 unfolding total words sum
 total-none s i h = rw (drop-of-length-le s {i = i} h)
 
--- a word added low byte first: 256 times the sum and what is left fold to the same
-pub fold-word : {sum-with : ℕ} (s : List ℕ) (i next so-far : ℕ) → next ≡ i + 2 → next ≤ length s → sum-with ≡ so-far + (getD s (i + 1) 0 * 256 + getD s i 0)
+-- two bytes added low byte first: 256 times the sum and what is left fold to the same
+pub fold-two : {sum-with : ℕ} (s : List ℕ) (i next so-far : ℕ) → next ≡ i + 2 → next ≤ length s → sum-with ≡ so-far + two s i
     → fold (sum-with * 256 + total (drop next s)) ≡ fold (so-far * 256 + total (drop i s))
-fold-word s i next so-far e h f =
+fold-two s i next so-far e h f =
     let step = total-step s i (omega arith) in
     rw e (ap fold (omega arith) ∙ fold-few-rounds (so-far * 256 + total (drop i s)) (getD s (i + 1) 0) (omega arith))
 
--- a piece of which the words, whose sum is `t`, were added to what is folded so far, folded: with what is left, `u`, the fold is the same
-pub fold-piece : {folded : ℕ} (so-far running t u : ℕ) → folded ≡ fold running → fold (running * 256) ≡ fold (so-far * 256 + t)
-    → fold (folded * 256 + u) ≡ fold (so-far * 256 + (t + u))
-fold-piece so-far running t u e f =
+-- four bytes added low byte first: the same, since 65,536 and its powers fold to 1
+pub fold-four : {n : ℕ} (s : List ℕ) (i next so-far : ℕ) → next ≡ i + 4 → next ≤ length s → n ≡ four s i
+    → fold ((so-far + n) * 256 + total (drop next s)) ≡ fold (so-far * 256 + total (drop i s))
+fold-four s i next so-far e h f =
+    let first = total-step s i (omega arith) in
+    let second = simp add-assoc at (total-step s (i + 2) (omega arith)) in
     rw e
-    (fold-scaled running u
-    ∙ sym (fold-fold (running * 256) u)
-    ∙ ap (λ (n : ℕ). fold (n + u)) f
-    ∙ fold-fold (so-far * 256 + t) u
-    ∙ ap fold (omega arith))
+    (ap fold (omega arith)
+    ∙ fold-any-rounds (so-far * 256 + total (drop i s)) (getD s (i + 1) 0 + getD s (i + 2) 0 * 256 + getD s (i + 3) 0 * 65537) (λ z. omega arith))
 
--- a piece of even length and what is left have the sum of both
-pub total-piece : (s : List ℕ) (at end n k : ℕ) → n ≡ k * 2 → at + n ≡ end → end ≤ length s
-    → total (take n (drop at s)) + total (drop end s) ≡ total (drop at s)
-total-piece s at end n k e f h =
-    let halves = total-append k (take n (drop at s)) (drop n (drop at s)) (simp (length-take, length-drop) (omega arith)) in
-    sym (rw (take-append-drop, drop-drop, f) at halves)
+-- eight bytes, as two times four
+pub fold-eight : {low high : ℕ} (s : List ℕ) (i next so-far : ℕ) → next ≡ i + 8 → next ≤ length s → low ≡ four s i → high ≡ four s (i + 4)
+    → fold ((so-far + low + high) * 256 + total (drop next s)) ≡ fold (so-far * 256 + total (drop i s))
+fold-eight {low = low} s i next so-far e h f g = fold-four s (i + 4) next (so-far + low) (omega arith) h g ∙ fold-four s i (i + 4) so-far refl (omega arith) f
 
 -- a sum is continued over a second piece
 pub fold-more : (start k : ℕ) (s t : List ℕ) → length s ≡ k * 2 → fold (fold (start + total s) + total t) ≡ fold (start + total (s ++ t))

@@ -1,2 +1,3 @@
 pub mod Folding
 pub mod Rfc1071
+pub mod helpers

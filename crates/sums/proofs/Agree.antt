@@ -1,0 +1,30 @@
+-- Document 02, request 13/13: "Prove that the wide sum and the plain one agree on all input, odd tails among it." A theorem about the promises of `sum` and of
+-- `plain`, as the prover reads them off the two contracts; neither asks anything of its caller.
+use Prim.Native.Nat.{_+_}
+use mathlib.Core.Path.{_≡_, sym, _∙_}
+use borrow.Fn.Kinds.{endedOf}
+use borrow.Fn.World.{ArgsD, ResD}
+use contract.Lifetimes.{Lfts}
+use denote.Ref.{now}
+use denote.Triple.Clauses.{AtExit}
+use Rattle.sums.specs.Rfc1071.{total, fold}
+use Rattle.sums.proofs.plain.{signature}
+use Rattle.sums.proofs.plain.Kinds.{ps, r}
+use Rattle.sums.proofs.plain.Reads as plain
+use Rattle.sums.proofs.sum.Reads as wide
+
+-- Both are called with a start and an input, and what they were lent is at the end in some state.
+module _ (κs : Lfts 1) (call : ArgsD signature κs) where
+  -- RFC 1071's fold of the start and the input's words
+  abbrev pub Defined : ResD signature κs → Type 0
+  Defined answer = answer ≡ fold (call .0 + total (now (call .1 .0)))
+
+  pub wide-is-defined : (answer : ResD signature κs) (exit : AtExit (endedOf 1 ps r) κs) → wide.Post κs call answer exit → Defined answer
+  wide-is-defined answer exit promised = promised
+
+  pub plain-is-defined : (answer : ResD signature κs) (exit : AtExit (endedOf 1 ps r) κs) → plain.Post κs call answer exit → Defined answer
+  plain-is-defined answer exit promised = promised
+
+  pub wide-and-plain-agree : (answer answer′ : ResD signature κs) (exit exit′ : AtExit (endedOf 1 ps r) κs)
+      → wide.Post κs call answer exit → plain.Post κs call answer′ exit′ → answer ≡ answer′
+  wide-and-plain-agree answer answer′ exit exit′ promised promised′ = wide-is-defined answer exit promised ∙ sym (plain-is-defined answer′ exit′ promised′)
