@@ -4,7 +4,7 @@ pub struct Sides<T> {
     /// The published Rust, where it has the call.
     pub rust: Option<T>,
     pub ours: T,
-    /// memcpy of the bytes that the call reads or copies, where it is held against it.
+    /// memcpy of the bytes that the call reads or copies, where it stands beside.
     pub memcpy: Option<T>,
 }
 
