@@ -20,13 +20,15 @@ mod ours;
 mod reassembly;
 mod rounds;
 mod rows;
+mod sides;
 mod stack;
 #[allow(dead_code)]
 #[path = "../oracle/the_rust.rs"]
 mod the_rust;
 
 use rounds::Timed;
-use rows::Calls;
+use rows::{Calls, Goal};
+use sides::Sides;
 
 const USAGE: &str = "usage: bench table [INSTRUCTIONS] | bench stack | bench count
   INSTRUCTIONS  what bench/run makes of `bench count` under callgrind";
@@ -57,31 +59,26 @@ fn print_beside_the_rust(counts: &mut impl Iterator<Item = u64>) {
     let mut rows = rows::all();
     let times = rounds::timed(&mut rows);
     println!(
-        "| call | Rust, ns | ours, ns | ratio | goal | Rust, instructions | ours, instructions |"
+        "| call | Rust, ns | ours, ns | ratio | goal | memcpy, ns | Rust, instructions | ours, instructions | memcpy, instructions |"
     );
-    println!("|---|--:|--:|--:|---|--:|--:|");
-    for (row, (rust, ours)) in rows.iter().zip(times) {
-        let (rust_time, ratio, goal, rust_count) = match (row.goal, rust) {
-            (Some(goal), Some(rust)) => {
-                let ratio = ours.best / rust.best;
-                let word = if ratio <= goal.0 { "met" } else { "missed" };
-                let goal = format!("{:.1}: {word}", goal.0);
-                (
-                    time(&rust),
-                    format!("{ratio:.2}"),
-                    goal,
-                    count_of(counts.next()),
-                )
-            }
-            _ => [(); 4].map(|()| "-".to_string()).into(),
-        };
-        let our_count = count_of(counts.next());
-        let our_time = time(&ours);
+    println!("|---|--:|--:|--:|---|--:|--:|--:|--:|");
+    for (row, times) in rows.iter().zip(times) {
+        let ratio = times.rust.as_ref().map(|rust| times.ours.best / rust.best);
+        let goal = row.goal.zip(ratio);
+        let goal = or_dash(goal.map(|(goal, ratio)| judged(goal, ratio)));
+        let ratio = or_dash(ratio.map(|ratio| format!("{ratio:.2}")));
+        let [rust, ours, memcpy] = cells(times, counts);
         println!(
-            "| {} | {rust_time} | {our_time} | {ratio} | {goal} | {rust_count} | {our_count} |",
-            row.name
+            "| {} | {} | {} | {ratio} | {goal} | {} | {} | {} | {} |",
+            row.name, rust.time, ours.time, memcpy.time, rust.count, ours.count, memcpy.count
         );
     }
+}
+
+fn judged(goal: Goal, ratio: f64) -> String {
+    let word = if ratio <= goal.0 { "met" } else { "missed" };
+    // With as many digits as it has, one at least.
+    format!("{:?}: {word}", goal.0)
 }
 
 fn print_reassembly(counts: &mut impl Iterator<Item = u64>) {
@@ -91,17 +88,34 @@ fn print_reassembly(counts: &mut impl Iterator<Item = u64>) {
         "| call on a store | ours, ns | memcpy, ns | ours, instructions | memcpy, instructions |"
     );
     println!("|---|--:|--:|--:|--:|");
-    for (row, (memcpy, ours)) in rows.iter().zip(times) {
-        let (memcpy_time, memcpy_count) = match memcpy {
-            Some(memcpy) => (time(&memcpy), count_of(counts.next())),
-            None => ("-".to_string(), "-".to_string()),
-        };
-        let (our_time, our_count) = (time(&ours), count_of(counts.next()));
+    for (row, times) in rows.iter().zip(times) {
+        let [_, ours, memcpy] = cells(times, counts);
         println!(
-            "| {} | {our_time} | {memcpy_time} | {our_count} | {memcpy_count} |",
-            row.name
+            "| {} | {} | {} | {} | {} |",
+            row.name, ours.time, memcpy.time, ours.count, memcpy.count
         );
     }
+}
+
+/// What a line says of one side.
+struct Cells {
+    time: String,
+    count: String,
+}
+
+/// The cells of the Rust, of ours and of memcpy, with the next counts in them.
+fn cells(times: Sides<Timed>, counts: &mut impl Iterator<Item = u64>) -> [Cells; 3] {
+    times.in_order().map(|side| {
+        let (time, count) = side.map(|timed| (time(&timed), counts.next())).unzip();
+        Cells {
+            time: or_dash(time),
+            count: or_dash(count.flatten().map(grouped)),
+        }
+    })
+}
+
+fn or_dash(cell: Option<String>) -> String {
+    cell.unwrap_or("-".to_string())
 }
 
 /// The best round, and the median.
@@ -127,10 +141,6 @@ fn grouped(number: u64) -> String {
     format!("{},{:03}", grouped(number / 1_000), number % 1_000)
 }
 
-fn count_of(instructions: Option<u64>) -> String {
-    instructions.map_or("-".to_string(), grouped)
-}
-
 /// How many calls are counted, once and once more: their difference leaves out what is not a call's.
 const COUNTED: [u64; 2] = [100, 200];
 
@@ -138,7 +148,7 @@ const COUNTED: [u64; 2] = [100, 200];
 /// name, and on Arm, where it loses sight of a function's end, it is asked.
 fn count() {
     for row in rows::all().iter_mut().chain(&mut reassembly::all()) {
-        for calls in row.beside.as_mut().into_iter().chain([&mut row.ours]) {
+        for calls in row.sides.as_mut().in_order().into_iter().flatten() {
             calls(COUNTED[0]);
             for number in COUNTED {
                 bench_counted(calls, number);

@@ -2,14 +2,13 @@
 
 use std::hint::black_box;
 use std::ops::Range;
-use std::ptr::copy_nonoverlapping;
 
 use crate::draws::GUEST_IP;
 use crate::guest_frames::{BODY_AT, ELSEWHERE, UDP, packet, with};
 use crate::inputs;
 use crate::mended::with_header_sum;
 use crate::ours::{self, State};
-use crate::rows::{Calls, Row, calls};
+use crate::rows::{Row, calls, copying};
 
 pub const BYTES: usize = 65_515;
 pub const WORDS: usize = 128;
@@ -157,22 +156,7 @@ fn taking(name: &'static str, mut store: Store, offset: usize, len: usize, answe
         put_back(&mut store, &state, &words, &bits);
         black_box(take(&mut store, black_box(frame), &mut place));
     });
-    Row {
-        name,
-        beside: Some(copying(offset, payload)),
-        goal: None,
-        ours,
-    }
-}
-
-/// memcpy of these bytes to their place in a store.
-fn copying(offset: usize, payload: &'static [u8]) -> Calls {
-    let mut bytes = vec![0u8; BYTES + 1_024];
-    calls(move || {
-        let (from, len) = (black_box(payload).as_ptr(), black_box(payload.len()));
-        unsafe { copy_nonoverlapping(from, bytes.as_mut_ptr().add(black_box(offset)), len) };
-        black_box(&mut bytes);
-    })
+    Row::of_ours(name, ours).beside_memcpy(copying(payload, offset))
 }
 
 fn passing(name: &'static str) -> Row {
@@ -192,12 +176,7 @@ fn unchanging(name: &'static str, frame: &'static [u8], answer: u32, expected: [
     let ours = calls(move || {
         black_box(take(&mut store, black_box(frame), &mut place));
     });
-    Row {
-        name,
-        beside: None,
-        goal: None,
-        ours,
-    }
+    Row::of_ours(name, ours)
 }
 
 /// Its 128 words are all that it writes, beside the state.
@@ -212,12 +191,7 @@ fn releasing(name: &'static str) -> Row {
     let ours = calls(move || {
         black_box(release(black_box(&mut store)));
     });
-    Row {
-        name,
-        beside: Some(copying(0, inputs::filling(WORDS * 8).leak())),
-        goal: None,
-        ours,
-    }
+    Row::of_ours(name, ours).beside_memcpy(copying(inputs::filling(WORDS * 8).leak(), 0))
 }
 
 fn train_of_45(name: &'static str) -> Row {
@@ -239,14 +213,10 @@ fn train_of_45(name: &'static str) -> Row {
         black_box(&store.bytes[place[0]..place[0] + place[1]] as *const [u8])
     };
     assert_eq!(unsafe { &*train() }, payload, "{name}");
-    Row {
-        name,
-        beside: Some(copying(0, payload)),
-        goal: None,
-        ours: calls(move || {
-            black_box(train());
-        }),
-    }
+    let ours = calls(move || {
+        black_box(train());
+    });
+    Row::of_ours(name, ours).beside_memcpy(copying(payload, 0))
 }
 
 /// It is in the first 18 rows too; here for 1,480 bytes, which have the most words.
@@ -257,10 +227,5 @@ fn putting_back(name: &'static str) -> Row {
         put_back(&mut store, &state, &words, &bits);
         black_box(&mut store);
     });
-    Row {
-        name,
-        beside: None,
-        goal: None,
-        ours,
-    }
+    Row::of_ours(name, ours)
 }

@@ -1,6 +1,7 @@
-//! The rounds: both sides of every row by turns, the best of each.
+//! The rounds: the sides of every row by turns, the best of each.
 
 use crate::rows::{Calls, Row};
+use crate::sides::Sides;
 
 /// The machine may be busy: what disturbs one round is gone in another.
 const ROUNDS: usize = 41;
@@ -81,31 +82,24 @@ fn enough(calls: &mut Calls) -> u64 {
     number
 }
 
-/// The time of what stands beside ours, where something does, and ours.
-pub fn timed(rows: &mut [Row]) -> Vec<(Option<Timed>, Timed)> {
-    let mut sides: Vec<(Option<Side>, Side)> = rows
+/// The time of each side of each row.
+pub fn timed(rows: &mut [Row]) -> Vec<Sides<Timed>> {
+    let mut rows: Vec<Sides<Side>> = rows
         .iter_mut()
-        .map(|row| {
-            let beside = row.beside.as_mut().map(Side::new);
-            (beside, Side::new(&mut row.ours))
-        })
+        .map(|row| row.sides.as_mut().map(Side::new))
         .collect();
     for round in 0..ROUNDS {
-        for (beside, ours) in &mut sides {
-            let ours_first = round % 2 == 1;
-            if ours_first {
-                ours.round();
+        for sides in &mut rows {
+            let mut turns = sides.as_mut().in_order();
+            if round % 2 == 1 {
+                turns.reverse();
             }
-            if let Some(beside) = beside {
-                beside.round();
-            }
-            if !ours_first {
-                ours.round();
+            for side in turns.into_iter().flatten() {
+                side.round();
             }
         }
     }
-    sides
-        .into_iter()
-        .map(|(beside, ours)| (beside.map(Side::timed), ours.timed()))
+    rows.into_iter()
+        .map(|sides| sides.map(Side::timed))
         .collect()
 }

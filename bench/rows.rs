@@ -1,6 +1,7 @@
 //! The rows of the table: what is timed on each side, and that both sides do the same.
 
 use std::hint::black_box;
+use std::ptr::copy_nonoverlapping;
 
 use published::handed::{self, To};
 use published::{NetworkBackend, SlirpBackend};
@@ -11,6 +12,7 @@ use crate::guest_frames::{ELSEWHERE, dns_query};
 use crate::inputs;
 use crate::networks::{BROADCAST, HERE};
 use crate::ours::{self, Guest, Network};
+use crate::sides::Sides;
 use crate::the_rust::IdCounter;
 
 /// Makes so many calls, one behind the other.
@@ -18,19 +20,50 @@ pub type Calls = Box<dyn FnMut(u64)>;
 
 pub struct Row {
     pub name: &'static str,
-    /// What ours is held to, where there is something: the Rust or, in the table of reassembly, memcpy.
-    pub beside: Option<Calls>,
+    pub sides: Sides<Calls>,
     pub goal: Option<Goal>,
-    pub ours: Calls,
+}
+
+impl Row {
+    pub fn of_ours(name: &'static str, ours: Calls) -> Row {
+        let sides = Sides {
+            rust: None,
+            ours,
+            memcpy: None,
+        };
+        Row {
+            name,
+            sides,
+            goal: None,
+        }
+    }
+
+    fn beside_the_rust(mut self, rust: Calls, goal: Option<Goal>) -> Row {
+        self.sides.rust = Some(rust);
+        self.goal = goal;
+        self
+    }
+
+    pub fn beside_memcpy(mut self, memcpy: Calls) -> Row {
+        self.sides.memcpy = Some(memcpy);
+        self
+    }
 }
 
 /// At most so many times the Rust's time.
 #[derive(Clone, Copy)]
 pub struct Goal(pub f64);
 
-/// Where the sum takes most of the time, and elsewhere.
+/// The customer's goals: where the sum takes most of the time, and elsewhere.
 const RULED_BY_THE_SUM: Goal = Goal(1.0);
 const NOT_RULED: Goal = Goal(0.5);
+
+/// Request 13/13's goals for the sum by itself. On x86-64 64 bytes may take what they took before it, 0.85 of the Rust's
+/// time. 20 bytes are held to their own time before it and not to the Rust's, so they have no goal here.
+const SUM_OF_20: Option<Goal> = None;
+const SUM_OF_64: Option<Goal> = Some(Goal(if ON_ARM { 0.8 } else { 0.85 }));
+const LONG_SUM: Option<Goal> = Some(Goal(if ON_ARM { 0.5 } else { 0.35 }));
+const ON_ARM: bool = cfg!(target_arch = "aarch64");
 
 /// A host of the Rust's finds the reply in its queue; that there is none it learns there too.
 enum Queue {
@@ -89,9 +122,10 @@ pub fn all() -> Vec<Row> {
             "`make_udp_payload`, 1,472 bytes; the Rust sums nothing",
             1_472,
         ),
-        checksum("`checksum`, 64 bytes", 64),
-        checksum("`checksum`, 1,480 bytes", 1_480),
-        checksum("`checksum`, 65,515 bytes", 65_515),
+        checksum("`checksum`, 20 bytes", SUM_OF_20, 20),
+        checksum("`checksum`, 64 bytes", SUM_OF_64, 64),
+        checksum("`checksum`, 1,480 bytes", LONG_SUM, 1_480),
+        checksum("`checksum`, 65,515 bytes", LONG_SUM, 65_515),
         reading(
             "strict reader: ping, 56 bytes",
             inputs::ping_of(56),
@@ -125,6 +159,17 @@ pub fn calls(mut call: impl FnMut() + 'static) -> Calls {
     })
 }
 
+/// memcpy of these bytes to this place in a buffer.
+pub fn copying(bytes: &'static [u8], place: usize) -> Calls {
+    assert!(place + bytes.len() <= ROOM);
+    let mut buffer = vec![0u8; ROOM];
+    calls(move || {
+        let (from, len) = (black_box(bytes).as_ptr(), black_box(bytes.len()));
+        unsafe { copy_nonoverlapping(from, buffer.as_mut_ptr().add(black_box(place)), len) };
+        black_box(&mut buffer);
+    })
+}
+
 fn gateway(name: &'static str, goal: Goal, frame: Vec<u8>, verdict: u32, queue: Queue) -> Row {
     assert_same_deed(name, &frame, verdict);
     let frame: &'static [u8] = frame.leak();
@@ -141,12 +186,7 @@ fn gateway(name: &'static str, goal: Goal, frame: Vec<u8>, verdict: u32, queue: 
     let ours = calls(move || {
         black_box(send(&mut guest, black_box(frame), &mut reply, &mut values));
     });
-    Row {
-        name,
-        beside: Some(rust),
-        goal: Some(goal),
-        ours,
-    }
+    Row::of_ours(name, ours).beside_the_rust(rust, Some(goal))
 }
 
 pub fn new_guest(id: u16) -> Guest {
@@ -243,16 +283,13 @@ fn segment(name: &'static str, len: usize) -> Row {
         "{name}"
     );
     assert!(out[..values[0]] == expected, "{name}");
-    Row {
-        name,
-        beside: Some(calls(move || {
-            black_box(&rust_frame());
-        })),
-        goal: Some(RULED_BY_THE_SUM),
-        ours: calls(move || {
-            black_box(our_frame(&mut id, &mut out, &mut values));
-        }),
-    }
+    let rust = calls(move || {
+        black_box(&rust_frame());
+    });
+    let ours = calls(move || {
+        black_box(our_frame(&mut id, &mut out, &mut values));
+    });
+    Row::of_ours(name, ours).beside_the_rust(rust, Some(RULED_BY_THE_SUM))
 }
 
 /// The Rust leaves the checksum 0 and reads the data once, to copy it; ours reads it a second time, to sum it.
@@ -279,19 +316,17 @@ fn datagram(name: &'static str, len: usize) -> Row {
     let expected = amended_datagram(SOURCE.0, TARGET.0, rust_datagram());
     assert_eq!(our_datagram(&mut out, &mut values), ours::REPLY, "{name}");
     assert!(out[..values[0]] == expected, "{name}");
-    Row {
-        name,
-        beside: Some(calls(move || {
-            black_box(&rust_datagram());
-        })),
-        goal: Some(RULED_BY_THE_SUM),
-        ours: calls(move || {
-            black_box(our_datagram(&mut out, &mut values));
-        }),
-    }
+    let rust = calls(move || {
+        black_box(&rust_datagram());
+    });
+    let ours = calls(move || {
+        black_box(our_datagram(&mut out, &mut values));
+    });
+    Row::of_ours(name, ours).beside_the_rust(rust, Some(RULED_BY_THE_SUM))
 }
 
-fn checksum(name: &'static str, len: usize) -> Row {
+/// memcpy of the bytes that are summed stands beside, the limit that request 13/13 names.
+fn checksum(name: &'static str, goal: Option<Goal>, len: usize) -> Row {
     let data: &'static [u8] = inputs::filling(len).leak();
     let rust_sum = move || SlirpBackend::checksum(black_box(data));
     let our_sum = move || {
@@ -299,16 +334,15 @@ fn checksum(name: &'static str, len: usize) -> Row {
         unsafe { ours::yavoledu_checksum(data.as_ptr(), data.len()) }
     };
     assert_eq!(rust_sum(), our_sum(), "{name}");
-    Row {
-        name,
-        beside: Some(calls(move || {
-            black_box(rust_sum());
-        })),
-        goal: Some(RULED_BY_THE_SUM),
-        ours: calls(move || {
-            black_box(our_sum());
-        }),
-    }
+    let rust = calls(move || {
+        black_box(rust_sum());
+    });
+    let ours = calls(move || {
+        black_box(our_sum());
+    });
+    Row::of_ours(name, ours)
+        .beside_the_rust(rust, goal)
+        .beside_memcpy(copying(data, 0))
 }
 
 /// What the loop and a call by themselves take, which is in every other row too.
@@ -317,12 +351,7 @@ fn empty_call(name: &'static str, frame: Vec<u8>) -> Row {
     let ours = calls(move || {
         black_box(returns_at_once(black_box(frame)));
     });
-    Row {
-        name,
-        beside: None,
-        goal: None,
-        ours,
-    }
+    Row::of_ours(name, ours)
 }
 
 #[inline(never)]
@@ -378,12 +407,7 @@ fn making(name: &'static str, network: Network, answer: u32) -> Row {
     let ours = calls(move || {
         black_box(make_guest(&mut guest, black_box(&network)));
     });
-    Row {
-        name,
-        beside: None,
-        goal: None,
-        ours,
-    }
+    Row::of_ours(name, ours)
 }
 
 fn reading(name: &'static str, frame: Vec<u8>, kind: u32) -> Row {
@@ -397,10 +421,5 @@ fn reading(name: &'static str, frame: Vec<u8>, kind: u32) -> Row {
     let ours = calls(move || {
         black_box(read());
     });
-    Row {
-        name,
-        beside: None,
-        goal: None,
-        ours,
-    }
+    Row::of_ours(name, ours)
 }
