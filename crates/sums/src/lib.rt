@@ -6,14 +6,14 @@
 // two bytes a step, stands at the end.
 ghost use mathlib.Core.Path.{_≡_};
 ghost use Prim.Native.Nat.{_+_, _*_, _/_, _%_, _^_, _≤_, _<_};
-ghost use lib.ListN.{length, getD, drop};
+ghost use lib.ListN.{length, drop};
 ghost use Rattle.sums.specs.Folding.{foldTo32, longestPiece, mostBehind, mostFolded, mostUpper};
 ghost use Rattle.sums.specs.Rfc1071.{total, fold, checksum as Rfc1071·checksum};
 ghost use Rattle.sums.specs.helpers.LowFirst.{two, four};
 use std::num::wrapping_add_u64;
 use std::num::wrapping_sub_u64;
 
-// The longest part with no fold inside.
+// The longest part that is added up with no fold inside.
 const PIECE: usize = 1073741824;
 
 // The checksum of all of `input`.
@@ -37,7 +37,7 @@ pub fn sum(start: u16, input: &[u8]) -> u16
     exchanged(folded(total_behind(so_far, &input[at..])))
 }
 
-// One step with a fold: eight bytes, as two numbers of four, added to what is folded so far.
+// One step with a fold: eight bytes, as two numbers of four bytes, added to what is folded so far.
 fn folded_in(so_far: u64, next: u64) -> u64
     requires { ⌜ «so_far» ≤ mostFolded ⌝ }
     ensures { λ r. ⌜ r ≡ foldTo32 («so_far» + foldTo32 next) ⌝ }
@@ -58,6 +58,7 @@ fn total_behind(so_far: u64, piece: &[u8]) -> u64
 
 // The same behind the eights of `piece` alone. The eight bytes of a step are added as one number, with no regard to
 // what is carried out of 64 bits, and their upper half by itself once more: that tells the sum of the lower halves.
+// Most inputs are short, so where there are no eights nothing is told.
 fn eights_behind(so_far: u64, piece: &[u8]) -> u64
     requires { ⌜ («so_far» ≤ mostFolded) × (length (now piece) ≤ longestPiece) ⌝ }
     ensures { λ r. ⌜ fold (r * 256 + total (drop (length (now (piece .entry)) / 8 * 8) (now (piece .entry)))) ≡ fold («so_far» * 256 + total (now (piece .entry))) ⌝ }
