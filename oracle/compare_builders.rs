@@ -104,9 +104,7 @@ impl Builder {
                 flags: (turn / 10 * 3 + turn % 10 - 4) as u8,
             }),
             7 => {
-                let mut own = Draws::of(&turn.to_be_bytes());
-                let any = own.below(65_536) as u16;
-                let start = own.one_of(&[0, 1, 0x00ff, 0xff00, 0xffff, any, any, any]);
+                let start = Draws::of(&turn.to_be_bytes()).start_of_a_sum();
                 match turn / 10 % TURNS_TO_A_LONG_CHECKSUM {
                     0 => Builder::LongChecksum { start },
                     _ => Builder::Checksum { start },
