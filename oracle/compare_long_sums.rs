@@ -8,7 +8,7 @@ use crate::draws::Draws;
 
 /// Of a longer input `sum` folds at each step, until so many bytes are left.
 const PIECE: usize = 1_073_741_824;
-/// An even number, as PIECE is, and half of it.
+/// An even number, so that each part starts at an even place.
 const FILLED: usize = 100_000;
 /// The filled parts start where the steps with a fold are, in the middle, and on either side of a
 /// piece's length. The zeros between them were never written to, so they take up no memory.
@@ -38,7 +38,7 @@ pub fn run(seed: u64) -> bool {
         }
         for len in LENGTHS {
             let start = draws.start_of_a_sum();
-            // Zeros add nothing, and each part starts at an even place.
+            // The sum of the parts put together, since the zeros add nothing.
             let summed = &parts[..3 * FILLED + len - PIECE];
             let checksum = u16::from_be_bytes(document_01::checksum(summed));
             let expected = [checksum, document_01::sum(start, summed)];
