@@ -26,7 +26,7 @@ pub const NAMES: [&str; 7] = [
 #[derive(Clone, Debug)]
 pub enum Builder {
     Made(Call),
-    /// The Rust's checksum; and the same bytes summed from a start, as the Rust has no function for.
+    /// The Rust's checksum; and sums of the same bytes from a start, for which the Rust has no function.
     Checksum {
         start: u16,
     },

@@ -50,9 +50,11 @@ pub fn run(seed: u64) -> bool {
             if ours != expected {
                 eprintln!("a difference behind {sums} long sums");
                 println!(
-                    "checksum, and sum from {start:#06x}, of {} bytes: expected {expected:04x?}, ours {ours:04x?}\nthe bytes: zeros, but for {} from each of the places {PLACES:?} on, which start with {:02x?}",
-                    grouped(len as u64),
-                    grouped(FILLED as u64),
+                    "checksum, and sum from {start:#06x}, of {} bytes: expected {expected:04x?}, ours {ours:04x?}",
+                    grouped(len as u64)
+                );
+                println!(
+                    "the bytes: zeros, but for {FILLED} from each of the places {PLACES:?} on; the first are {:02x?}",
                     &parts[..8]
                 );
                 return false;
