@@ -155,7 +155,7 @@ fn length([high, middle, low, _]: [u8; 4]) -> usize {
 
 fn longest(builder: &Option<Builder>) -> usize {
     match builder {
-        Some(Builder::Checksum) => LONGEST_SUMMED,
+        Some(Builder::Checksum { .. }) => LONGEST_SUMMED,
         _ => LONGEST,
     }
 }
@@ -219,7 +219,7 @@ fn builder(fields: &[u8; FIELDS]) -> Builder {
             ack,
             flags: proto_or_flags,
         }),
-        _ => Builder::Checksum,
+        _ => Builder::Checksum { start: 0 },
     }
 }
 

@@ -280,7 +280,7 @@ impl<L: Lender> Run<'_, L> {
         let room = builder.room(draws, payload.len());
         let made = match &builder {
             Builder::Made(call) => self.made(call, &payload, room),
-            Builder::Checksum | Builder::LongChecksum => self.checksum(&payload),
+            Builder::Checksum { .. } | Builder::LongChecksum { .. } => self.checksum(&payload),
             // The library does not export these.
             Builder::DhcpReply { .. } | Builder::MessageType => Ok(()),
         };

@@ -16,6 +16,7 @@ mod compare_call;
 mod compare_drawn;
 mod compare_every;
 mod compare_grammar;
+mod compare_long_sums;
 mod compare_makings;
 mod compare_ours;
 mod compare_rust;
@@ -62,8 +63,8 @@ use compare_worker::Plan;
 use networks::NUMBER;
 
 const USAGE: &str =
-    "usage: compare [--seed NUMBER] [--frames NUMBER] [--processes NUMBER] [--sample NUMBER] [--records 1]
-  with --records the call that makes a record is compared instead
+    "usage: compare [--seed NUMBER] [--frames NUMBER] [--processes NUMBER] [--sample NUMBER] [--records 1 | --long-sums 1]
+  with --records the call that makes a record is compared instead, with --long-sums the sums of inputs past a piece
   at least 1 frame and 1 to 64 processes; oracle/compare --help says what each word is";
 
 const FRAMES: u64 = 60_000_000;
@@ -78,7 +79,7 @@ pub fn main() {
         processes: 1,
         sample: 0,
     };
-    let (mut process, mut records) = (None, false);
+    let (mut process, mut records, mut long_sums) = (None, false, false);
     for pair in words.chunks(2) {
         let number = pair.get(1).and_then(|word| number_of(word));
         match (pair[0].as_str(), number) {
@@ -88,6 +89,7 @@ pub fn main() {
             ("--sample", Some(number)) => plan.sample = number as usize,
             ("--process", Some(number)) => process = Some(number),
             ("--records", Some(1)) => records = true,
+            ("--long-sums", Some(1)) => long_sums = true,
             _ => {
                 eprintln!("{USAGE}");
                 exit(2);
@@ -96,6 +98,7 @@ pub fn main() {
     }
     let is_good = match process {
         _ if records => compare_makings::run(plan.seed),
+        _ if long_sums => compare_long_sums::run(plan.seed),
         Some(process) => compare_worker::work(&plan, process),
         None => run(&plan),
     };

@@ -1,4 +1,5 @@
-//! Calls of the builders, the option walk and the checksum, compared with the Rust's.
+//! Calls of the builders, the option walk and the checksum, compared with the Rust's; and sums from a
+//! start, with document 01's rule.
 
 use published::SlirpBackend;
 
@@ -16,8 +17,8 @@ pub const NAMES: [&str; 7] = [
     "make_ip_frame",
     "make_udp_payload",
     "make_tcp_frame",
-    "checksum",
-    "checksum past 131,074 bytes, by document 01's rule",
+    "checksum, and sum and plain from a start",
+    "these past 131,074 bytes, by document 01's rule",
     "build_reply of DHCP",
     "message_type of DHCP",
 ];
@@ -25,9 +26,14 @@ pub const NAMES: [&str; 7] = [
 #[derive(Clone, Debug)]
 pub enum Builder {
     Made(Call),
-    Checksum,
+    /// The Rust's checksum; and sums of the same bytes from a start, for which the Rust has no function.
+    Checksum {
+        start: u16,
+    },
     /// The Rust's 32-bit sum is not certain here, so it is not asked.
-    LongChecksum,
+    LongChecksum {
+        start: u16,
+    },
     /// The payload is not looked at; MAC and xid are the record's.
     DhcpReply {
         kind: u8,
@@ -36,8 +42,9 @@ pub enum Builder {
     MessageType,
 }
 
-/// A checksum is compared as if it had been written into a buffer of its size.
-const CHECKSUM_LEN: usize = 2;
+/// A checksum is compared as if it had been written into a buffer, and behind it what `sum` and `plain`
+/// make of the start.
+const CHECKSUM_AND_SUMS_LEN: usize = 6;
 const DHCP_REPLY_LEN: usize = 300;
 /// What `message_type` tells is compared as if it had been written: the number and the value.
 const TOLD_LEN: usize = 9;
@@ -48,7 +55,7 @@ const LONGEST_OF_THE_RUST: usize = 131_074;
 fn head_and_limit(builder: &Builder) -> (usize, usize) {
     match builder {
         Builder::Made(call) => (call.head_len(), call.limit()),
-        Builder::Checksum | Builder::LongChecksum => (0, LONGEST_OF_THE_RUST),
+        Builder::Checksum { .. } | Builder::LongChecksum { .. } => (0, LONGEST_OF_THE_RUST),
         Builder::DhcpReply { .. } => (DHCP_REPLY_LEN, 0),
         Builder::MessageType => (0, 0),
     }
@@ -60,8 +67,8 @@ impl Builder {
             Builder::Made(Call::Ip { .. }) => 0,
             Builder::Made(Call::Udp { .. }) => 1,
             Builder::Made(Call::Tcp { .. }) => 2,
-            Builder::Checksum => 3,
-            Builder::LongChecksum => 4,
+            Builder::Checksum { .. } => 3,
+            Builder::LongChecksum { .. } => 4,
             Builder::DhcpReply { .. } => 5,
             Builder::MessageType => 6,
         }
@@ -96,8 +103,13 @@ impl Builder {
                 ack: draws.word(),
                 flags: (turn / 10 * 3 + turn % 10 - 4) as u8,
             }),
-            7 if turn / 10 % TURNS_TO_A_LONG_CHECKSUM == 0 => Builder::LongChecksum,
-            7 => Builder::Checksum,
+            7 => {
+                let start = Draws::of(&turn.to_be_bytes()).start_of_a_sum();
+                match turn / 10 % TURNS_TO_A_LONG_CHECKSUM {
+                    0 => Builder::LongChecksum { start },
+                    _ => Builder::Checksum { start },
+                }
+            }
             8 => Builder::DhcpReply { kind: draws.byte() },
             _ => Builder::MessageType,
         }
@@ -125,7 +137,7 @@ impl Builder {
     fn any_payload(&self, draws: &mut Draws) -> Vec<u8> {
         let (_, limit) = head_and_limit(self);
         match self {
-            Builder::LongChecksum => {
+            Builder::LongChecksum { .. } => {
                 let (len, any) = (limit + 1 + draws.below(170_000), draws.byte());
                 return vec![draws.one_of(&[0xff, 0xff, 0xff, any]); len];
             }
@@ -155,13 +167,16 @@ impl Builder {
     }
 
     fn is_checksum(&self) -> bool {
-        matches!(self, Builder::Checksum | Builder::LongChecksum)
+        matches!(
+            self,
+            Builder::Checksum { .. } | Builder::LongChecksum { .. }
+        )
     }
 
     /// The buffer lent: what is needed, around it, none, or ample.
     pub fn room(&self, draws: &mut Draws, payload_len: usize) -> usize {
         if self.is_checksum() {
-            return CHECKSUM_LEN;
+            return CHECKSUM_AND_SUMS_LEN;
         }
         if matches!(self, Builder::MessageType) {
             return TOLD_LEN;
@@ -192,8 +207,13 @@ impl Builder {
     ) -> Result<(Answer, Whose), String> {
         let built = match self {
             Builder::Made(call) => call.ask_the_rust(payload),
-            Builder::Checksum => SlirpBackend::checksum(payload).to_be_bytes().to_vec(),
-            Builder::LongChecksum => document_01::checksum(payload).to_vec(),
+            Builder::Checksum { start } => {
+                let checksum = SlirpBackend::checksum(payload).to_be_bytes();
+                checksum_and_sums(checksum, *start, payload)
+            }
+            Builder::LongChecksum { start } => {
+                checksum_and_sums(document_01::checksum(payload), *start, payload)
+            }
             Builder::DhcpReply { kind } => {
                 SlirpBackend::build_reply(record.xid, &record.mac, *kind)
             }
@@ -249,17 +269,28 @@ impl Builder {
                     after: record,
                 }
             }
-            Builder::Checksum | Builder::LongChecksum => {
-                let sum = compare_ours::checksum(payload).to_be_bytes();
-                out[..CHECKSUM_LEN].copy_from_slice(&sum);
+            Builder::Checksum { start } | Builder::LongChecksum { start } => {
+                let told = [
+                    compare_ours::checksum(payload),
+                    compare_ours::sum(*start, payload),
+                    compare_ours::plain(*start, payload),
+                ];
+                let told = told.map(u16::to_be_bytes).concat();
+                out[..CHECKSUM_AND_SUMS_LEN].copy_from_slice(&told);
                 Told {
                     number: 1,
-                    values: [CHECKSUM_LEN as u64, 0],
+                    values: [CHECKSUM_AND_SUMS_LEN as u64, 0],
                     after: record,
                 }
             }
         }
     }
+}
+
+/// What the checksum, `sum` and `plain` have to be: each of both sums is document 01's.
+fn checksum_and_sums(checksum: [u8; 2], start: u16, payload: &[u8]) -> Vec<u8> {
+    let sum = document_01::sum(start, payload).to_be_bytes();
+    [checksum, sum, sum].concat()
 }
 
 fn told_bytes(number: u8, value: u64) -> [u8; TOLD_LEN] {

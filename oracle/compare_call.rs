@@ -79,7 +79,10 @@ impl Sides {
             Some(builder) => builder.ours(record, bytes, out),
         };
         let whose_words = match (&rusts, &input.builder) {
-            (_, Some(Builder::LongChecksum)) => "document 01's rule; the Rust is not asked",
+            (_, Some(Builder::LongChecksum { .. })) => "document 01's rule; the Rust is not asked",
+            (_, Some(Builder::Checksum { .. })) => {
+                "the Rust's checksum, and document 01's rule for what `sum` and `plain` make of the start"
+            }
             (Ok((_, whose)), _) => words_for(*whose),
             (Err(_), _) => "what document 01 does not know of",
         };

@@ -81,6 +81,10 @@ unsafe extern "C" {
 
     fn compared_checksum(input: *const u8, len: usize) -> u16;
 
+    fn compared_sum(start: u16, input: *const u8, len: usize) -> u16;
+
+    fn compared_plain(start: u16, input: *const u8, len: usize) -> u16;
+
     fn compared_make(
         mac: *mut u8,
         id: *mut u16,
@@ -252,6 +256,14 @@ pub fn message_type(data: &[u8]) -> (u32, [u64; 2]) {
 
 pub fn checksum(input: &[u8]) -> u16 {
     unsafe { compared_checksum(input.as_ptr(), input.len()) }
+}
+
+pub fn sum(start: u16, input: &[u8]) -> u16 {
+    unsafe { compared_sum(start, input.as_ptr(), input.len()) }
+}
+
+pub fn plain(start: u16, input: &[u8]) -> u16 {
+    unsafe { compared_plain(start, input.as_ptr(), input.len()) }
 }
 
 /// A record made with this MAC and network, and the number told. The network's lease time is named where

@@ -13,6 +13,8 @@ unsigned tcp_frame_within(void *, void *, void *, void *, const void *, const vo
 unsigned dhcp_reply_within(const void *, unsigned, const void *, unsigned char, Slice *, void *) WITHIN("compared_dhcp_reply");
 unsigned message_type_within(Slice *, void *) WITHIN("compared_message_type");
 unsigned short checksum_within(Slice *) WITHIN("compared_checksum");
+unsigned short sum_within(unsigned short, Slice *) WITHIN("compared_sum");
+unsigned short plain_within(unsigned short, Slice *) WITHIN("compared_plain");
 unsigned make_within(void *, void *, void *, void *, unsigned) WITHIN("compared_make");
 unsigned make_over_within(void *, void *, void *, void *, const void *, const void *, unsigned) WITHIN("compared_make_over");
 
@@ -54,6 +56,16 @@ unsigned compared_message_type(const void *data, unsigned long len, void *values
 unsigned short compared_checksum(const void *input, unsigned long len) {
     Slice in = {input, len};
     return checksum_within(&in);
+}
+
+unsigned short compared_sum(unsigned short start, const void *input, unsigned long len) {
+    Slice in = {input, len};
+    return sum_within(start, &in);
+}
+
+unsigned short compared_plain(unsigned short start, const void *input, unsigned long len) {
+    Slice in = {input, len};
+    return plain_within(start, &in);
 }
 
 unsigned compared_make(void *mac, void *id, void *xid, void *network, unsigned lease_named) {

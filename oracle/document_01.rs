@@ -266,14 +266,16 @@ pub fn datagram(source: ([u8; 4], u16), target: ([u8; 4], u16), data: &[u8]) -> 
 }
 
 pub fn checksum(bytes: &[u8]) -> [u8; 2] {
-    let total: u64 = bytes
+    (65_535 - sum(0, bytes)).to_be_bytes()
+}
+
+/// The fold of a start and the words of the bytes.
+pub fn sum(start: u16, bytes: &[u8]) -> u16 {
+    let words = bytes
         .chunks(2)
-        .map(|word| number(&[word[0], *word.get(1).unwrap_or(&0)]))
-        .sum();
-    let fold = if total == 0 {
-        0
-    } else {
-        (total - 1) % 65_535 + 1
-    };
-    ((65_535 - fold) as u16).to_be_bytes()
+        .map(|word| number(&[word[0], *word.get(1).unwrap_or(&0)]));
+    match u64::from(start) + words.sum::<u64>() {
+        0 => 0,
+        total => ((total - 1) % 65_535 + 1) as u16,
+    }
 }

@@ -90,6 +90,12 @@ impl Draws {
         self.one_of(&[0, 1, 0x7fff_ffff, 0x8000_0000, 0xffff_ffff, any, any, any])
     }
 
+    #[allow(dead_code)] // by oracle/vectors
+    pub fn start_of_a_sum(&mut self) -> u16 {
+        let any = self.below(65_536) as u16;
+        self.one_of(&[0, 1, 0x00ff, 0xff00, 0xffff, any, any, any])
+    }
+
     pub fn proto(&mut self) -> u8 {
         let any = self.byte();
         self.one_of(&[0, 1, 6, 17, 255, any])

@@ -40,3 +40,40 @@ fn lengths_past_what_a_sum_of_32_bits_is_certain_for() {
         }
     }
 }
+
+/// Of a longer input the library folds at each step, until so many bytes are left.
+const PIECE: usize = 1_073_741_824;
+
+#[test]
+fn lengths_past_a_piece() {
+    // Four parts are filled: where the steps with a fold are, in the middle, and on either side of a piece's length. The
+    // zeros between them, which were never written to, take up no memory, and add nothing to a sum. Each part starts at an
+    // even place, so the sum is that of the parts put together.
+    const FILLED: usize = 100_000;
+    let mut bytes = vec![0; PIECE + FILLED];
+    for parts in [vec![0xff; 4 * FILLED], pattern(4 * FILLED)] {
+        let places = [0, PIECE / 2, PIECE - FILLED, PIECE];
+        for (part, place) in parts.chunks(FILLED).zip(places) {
+            bytes[place..place + FILLED].copy_from_slice(part);
+        }
+        for len in [
+            PIECE - 1,
+            PIECE,
+            PIECE + 1,
+            PIECE + 7,
+            PIECE + 8,
+            PIECE + 9,
+            PIECE + 16,
+            PIECE + 23,
+            PIECE + 4_098,
+            PIECE + FILLED - 1,
+            PIECE + FILLED,
+        ] {
+            assert_eq!(
+                yavoledu::checksum(&bytes[..len]),
+                frames::checksum(&parts[..3 * FILLED + len - PIECE]),
+                "{len}"
+            );
+        }
+    }
+}
