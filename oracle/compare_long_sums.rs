@@ -1,4 +1,4 @@
-//! Inputs longer than a piece, past which `sums` folds at each step: `checksum` and `sum` from a start,
+//! Inputs longer than a piece, past which `sums` folds at each step: `checksum`, and `sum` from two starts,
 //! compared with document 01's rule.
 
 use crate::compare_ours;
@@ -27,6 +27,9 @@ const LENGTHS: [usize; 11] = [
     PIECE + FILLED,
 ];
 
+/// Behind this start the first step over eight bytes of ff is folded to 2^32, the most that a step leaves.
+const START_OF_THE_MOST: u16 = 0x0100;
+
 /// Compares, prints the count or the first difference, and says whether there was none.
 pub fn run(seed: u64) -> bool {
     let mut draws = Draws::new(seed | 1);
@@ -37,20 +40,22 @@ pub fn run(seed: u64) -> bool {
             bytes[place..place + FILLED].copy_from_slice(part);
         }
         for len in LENGTHS {
-            let start = draws.start_of_a_sum();
             // The sum of the parts put together, since the zeros add nothing.
             let summed = &parts[..3 * FILLED + len - PIECE];
+            let starts = [draws.start_of_a_sum(), START_OF_THE_MOST];
             let checksum = u16::from_be_bytes(document_01::checksum(summed));
-            let expected = [checksum, document_01::sum(start, summed)];
+            let sums_from = starts.map(|start| document_01::sum(start, summed));
+            let expected = [checksum, sums_from[0], sums_from[1]];
             let input = &bytes[..len];
             let ours = [
                 compare_ours::checksum(input),
-                compare_ours::sum(start, input),
+                compare_ours::sum(starts[0], input),
+                compare_ours::sum(starts[1], input),
             ];
             if ours != expected {
                 eprintln!("a difference behind {sums} long sums");
                 println!(
-                    "checksum, and sum from {start:#06x}, of {} bytes: expected {expected:04x?}, ours {ours:04x?}",
+                    "checksum, and sum from {starts:04x?}, of {} bytes: expected {expected:04x?}, ours {ours:04x?}",
                     grouped(len as u64)
                 );
                 println!(

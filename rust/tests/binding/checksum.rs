@@ -51,7 +51,10 @@ fn lengths_past_a_piece() {
     // even place, so the sum is that of the parts put together.
     const FILLED: usize = 100_000;
     let mut bytes = vec![0; PIECE + FILLED];
-    for parts in [vec![0xff; 4 * FILLED], pattern(4 * FILLED)] {
+    // A 1 and behind it ones: the second step is folded to 2^32, the most that a step leaves.
+    let mut to_the_most = vec![0xff; 4 * FILLED];
+    to_the_most[..8].copy_from_slice(&[1, 0, 0, 0, 0, 0, 0, 0]);
+    for parts in [vec![0xff; 4 * FILLED], to_the_most, pattern(4 * FILLED)] {
         let places = [0, PIECE / 2, PIECE - FILLED, PIECE];
         for (part, place) in parts.chunks(FILLED).zip(places) {
             bytes[place..place + FILLED].copy_from_slice(part);
