@@ -12,7 +12,7 @@ const ROOM: usize = 65_549;
 const FROM_GUEST: [u16; 2] = [68, 67];
 const FROM_SERVER: [u16; 2] = [67, 68];
 
-/// A length and those before it: with a byte less the sum may take turns more, since eight bytes are one turn and six are three.
+/// A length and those before it: a byte less may take the sum turns more, since eight bytes are one turn and seven are three.
 fn up_to(longest: usize) -> RangeInclusive<usize> {
     longest - 9..=longest
 }
@@ -146,7 +146,7 @@ fn read(run: Run, told: String, frame: Vec<u8>) {
 
 /// Frames that the grammar takes, with every length of header.
 fn readings(run: Run) {
-    for len in LENGTHS.into_iter().chain(up_to(ROOM)) {
+    for len in LENGTHS.into_iter().chain(up_to(65_548)) {
         for header_words in 5..16 {
             let told = |what: &str| {
                 format!(
@@ -382,7 +382,7 @@ fn fragments_of_a_large_frame(run: Run) {
     );
 }
 
-/// The payload or data of frames of the two lengths, the longest that is taken, and one byte more.
+/// The payload or data of frames of the two lengths, the longest that is taken and those before it, and one byte more.
 fn builders(run: Run) {
     let byte = |len: usize| (0..len).map(|at| (at * 7) as u8).collect::<Vec<u8>>();
     for n in [0, 1, 3, 4, 5, 1_480]
@@ -463,11 +463,11 @@ fn checksums(run: Run) {
             checksum(run, vec![byte; n]);
         }
     }
-    let mut bytes = vec![255; PIECE + 17];
-    for at in (0..100).chain(PIECE - 100..PIECE + 17) {
+    let mut bytes = vec![255; PIECE + 37];
+    for at in (0..100).chain(PIECE - 100..PIECE + 37) {
         bytes[at] = (at * 7) as u8;
     }
-    for n in [PIECE, PIECE + 1, PIECE + 8, PIECE + 17] {
+    for n in [PIECE, PIECE + 1, PIECE + 37] {
         checksum(run, &bytes[..n]);
     }
 }

@@ -274,12 +274,13 @@ impl Call<'_> {
 
 /// What the code answers; an error where it ends in a panic, as on a sum that overflows.
 pub fn caught<T>(code: impl FnOnce() -> T) -> Result<T, String> {
-    catch_unwind(AssertUnwindSafe(code)).map_err(|panic| match panic.downcast::<String>() {
-        Ok(text) => format!("the code panics: {text}"),
-        Err(panic) => panic
-            .downcast::<&str>()
-            .map_or("the code panics".to_string(), |text| {
-                format!("the code panics: {text}")
-            }),
+    catch_unwind(AssertUnwindSafe(code)).map_err(|panic| {
+        let text = match panic.downcast::<String>() {
+            Ok(text) => *text,
+            Err(panic) => panic
+                .downcast::<&str>()
+                .map_or("a panic".to_string(), |text| text.to_string()),
+        };
+        format!("the code panics: {text}")
     })
 }

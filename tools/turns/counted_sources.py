@@ -90,6 +90,7 @@ class Counters:
 
 
 def start_of_run(function, number, text):
+    """What the body of a loop's function starts with."""
     if function.file != FILE_OF_THE_SUM:
         return f"turns::run({number});"
     head = text[text.rindex(f"fn {function.name}(", 0, function.body_start):function.body_start]

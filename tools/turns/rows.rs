@@ -99,10 +99,7 @@ fn of_read(frame: &[u8]) -> Row {
         let (ports, data) = (ports_of(frame), frame.len() - payload_at(frame) - 8);
         let is_dhcp = ports == [67, 68] || ports == [68, 67];
         if is_dhcp && (FIXED..=LONGEST_MESSAGE).contains(&data) {
-            return row(
-                "a DHCP message",
-                &[('b', b), ('h', h), ('m', data - FIXED)],
-            );
+            return row("a DHCP message", &[('b', b), ('h', h), ('m', data - FIXED)]);
         }
     }
     row("another IPv4 frame", &[('b', b), ('h', h)])
