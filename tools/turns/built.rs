@@ -2,6 +2,8 @@
 
 use crate::calls::*;
 use crate::frames::*;
+use std::borrow::Cow;
+use std::ops::RangeInclusive;
 use turns::PIECE;
 
 /// The two lengths that docs/LOOPS.md has columns for, and longer ones.
@@ -9,6 +11,11 @@ pub const LENGTHS: [usize; 4] = [1_514, 65_549, 70_000, 200_000];
 const ROOM: usize = 65_549;
 const FROM_GUEST: [u16; 2] = [68, 67];
 const FROM_SERVER: [u16; 2] = [67, 68];
+
+/// A length and those before it: a byte less may take the sum turns more, since eight bytes are one turn and seven are three.
+fn up_to(longest: usize) -> RangeInclusive<usize> {
+    longest - 9..=longest
+}
 
 /// Runs a call, told so, and hands back its outcome and its turns; nothing where it ended in a panic.
 pub type Run<'a> = &'a mut dyn FnMut(String, Call) -> Option<(Outcome, u64)>;
@@ -36,10 +43,8 @@ fn send(run: Run, told: String, frame: Vec<u8>) {
 fn pings(run: Run) {
     for header_words in 1..16 {
         let start = 14 + 4 * header_words;
-        for len in LENGTHS
-            .into_iter()
-            .chain([60, start + PAYLOAD_LIMIT, start + PAYLOAD_LIMIT + 1])
-        {
+        let longest = start + PAYLOAD_LIMIT;
+        for len in LENGTHS.into_iter().chain([60]).chain(up_to(longest + 1)) {
             if len < start + 8 {
                 continue;
             }
@@ -141,7 +146,7 @@ fn read(run: Run, told: String, frame: Vec<u8>) {
 
 /// Frames that the grammar takes, with every length of header.
 fn readings(run: Run) {
-    for len in LENGTHS {
+    for len in LENGTHS.into_iter().chain(up_to(65_548)) {
         for header_words in 5..16 {
             let told = |what: &str| {
                 format!(
@@ -377,10 +382,13 @@ fn fragments_of_a_large_frame(run: Run) {
     );
 }
 
-/// The payload or data of frames of the two lengths, the longest that is taken, and one byte more.
+/// The payload or data of frames of the two lengths, the longest that is taken and those before it, and one byte more.
 fn builders(run: Run) {
     let byte = |len: usize| (0..len).map(|at| (at * 7) as u8).collect::<Vec<u8>>();
-    for n in [0, 1, 3, 4, 5, 1_480, PAYLOAD_LIMIT, PAYLOAD_LIMIT + 1] {
+    for n in [0, 1, 3, 4, 5, 1_480]
+        .into_iter()
+        .chain(up_to(PAYLOAD_LIMIT + 1))
+    {
         let told = format!("a payload of {n} bytes");
         run(
             told,
@@ -390,7 +398,10 @@ fn builders(run: Run) {
             },
         );
     }
-    for n in [0, 1, 3, 4, 5, 1_472, 65_507, 65_527, 65_528] {
+    for n in [0, 1, 3, 4, 5, 1_472, 65_507]
+        .into_iter()
+        .chain(up_to(65_528))
+    {
         run(
             format!("data of {n} bytes"),
             Call::MakeUdpPayload {
@@ -401,16 +412,10 @@ fn builders(run: Run) {
     }
     for flags in [0x10, 0x12, 0x02, 0xff] {
         let options = if flags & 2 != 0 { 8 } else { 0 };
-        for n in [
-            0,
-            1,
-            3,
-            4,
-            5,
-            1_460 - options,
-            65_495 - options,
-            65_496 - options,
-        ] {
+        for n in [0, 1, 3, 4, 5, 1_460 - options]
+            .into_iter()
+            .chain(up_to(65_496 - options))
+        {
             let told = format!(
                 "data of {n} bytes{}",
                 if options == 8 { " with SYN" } else { "" }
@@ -449,37 +454,34 @@ fn builders(run: Run) {
     );
 }
 
-/// Lengths around each step of the sum, for bytes that sum to the most and to nothing.
+/// Lengths around each step of the sum, for bytes that sum to the most and to nothing; around a whole piece for the most alone, but for
+/// those of its start and its end.
 fn checksums(run: Run) {
-    let near = |n: usize| n.saturating_sub(5)..n + 6;
-    let lengths = (0..70).chain([1_514, 65_549, 70_000, 200_000, 1_000_003]);
-    let lengths = lengths
-        .chain(near(65_536))
-        .chain(near(PIECE))
-        .chain(near(2 * PIECE))
-        .chain(near(7 * PIECE));
-    for n in lengths {
+    let lengths = (0..70).chain(65_527..=65_549);
+    for n in lengths.chain([1_514, 70_000, 200_000, 1_000_003]) {
         for byte in [0, 255] {
-            run(
-                format!("{n} bytes"),
-                Call::Checksum {
-                    data: vec![byte; n],
-                },
-            );
+            checksum(run, vec![byte; n]);
         }
     }
+    let mut bytes = vec![255; PIECE + 37];
+    for at in (0..100).chain(PIECE - 100..PIECE + 37) {
+        bytes[at] = (at * 7) as u8;
+    }
+    for n in [PIECE, PIECE + 1, PIECE + 37] {
+        checksum(run, &bytes[..n]);
+    }
+}
+
+fn checksum<'a>(run: Run, data: impl Into<Cow<'a, [u8]>>) {
+    let data = data.into();
+    run(format!("{} bytes", data.len()), Call::Checksum { data });
 }
 
 /// Each kind of call at every length up to somewhat past 1,514 bytes.
 fn every_length(run: Run) {
     for len in 0..1_700 {
         let bytes = vec![0x5a; len];
-        run(
-            format!("{len} bytes"),
-            Call::Checksum {
-                data: bytes.clone(),
-            },
-        );
+        checksum(run, &bytes);
         run(
             format!("a payload of {len} bytes"),
             Call::MakeIpFrame {

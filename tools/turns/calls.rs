@@ -2,6 +2,7 @@
 
 use crate::counted::CountedLibrary;
 use record::{Guest, Network};
+use std::borrow::Cow;
 use std::panic::{AssertUnwindSafe, catch_unwind};
 use turns::Taken;
 
@@ -30,7 +31,7 @@ impl Store {
     }
 }
 
-pub enum Call {
+pub enum Call<'a> {
     Send {
         frame: Vec<u8>,
         room: usize,
@@ -46,7 +47,7 @@ pub enum Call {
         store: Store,
     },
     Checksum {
-        data: Vec<u8>,
+        data: Cow<'a, [u8]>,
     },
     MakeIpFrame {
         payload: Vec<u8>,
@@ -160,7 +161,7 @@ fn numbers_of(record: &Guest) -> Vec<u64> {
     ]
 }
 
-impl Call {
+impl Call<'_> {
     pub fn function(&self) -> &'static str {
         match self {
             Call::Send { .. } => "yavoledu_send",
@@ -196,16 +197,6 @@ impl Call {
             self,
             Call::Send { .. } | Call::Read { .. } | Call::Take { .. }
         )
-    }
-
-    /// How many bytes a builder or the checksum is to go over.
-    pub fn data_length(&self) -> Option<usize> {
-        match self {
-            Call::Checksum { data } | Call::MakeUdpPayload { data, .. } => Some(data.len()),
-            Call::MakeIpFrame { payload, .. } => Some(payload.len()),
-            Call::MakeTcpFrame { data, flags, .. } => (flags & 2 == 0).then_some(data.len()),
-            _ => None,
-        }
     }
 
     pub fn run(&self, library: &dyn Library) -> Outcome {
@@ -274,17 +265,22 @@ impl Call {
         }
     }
 
-    /// The call on the library with counters; an error where that ends in a panic, as on a sum that overflows.
+    /// The call on the library with counters.
     pub fn counted(&self) -> Result<(Outcome, Taken), String> {
         turns::start();
-        let outcome = catch_unwind(AssertUnwindSafe(|| self.run(&CountedLibrary)));
-        outcome
-            .map(|outcome| (outcome, turns::counted()))
-            .map_err(|panic| match panic.downcast::<String>() {
-                Ok(text) => *text,
-                Err(panic) => panic
-                    .downcast::<&str>()
-                    .map_or("a panic".to_string(), |text| text.to_string()),
-            })
+        caught(|| self.run(&CountedLibrary)).map(|outcome| (outcome, turns::counted()))
     }
+}
+
+/// What the code answers; an error where it ends in a panic, as on a sum that overflows.
+pub fn caught<T>(code: impl FnOnce() -> T) -> Result<T, String> {
+    catch_unwind(AssertUnwindSafe(code)).map_err(|panic| {
+        let text = match panic.downcast::<String>() {
+            Ok(text) => *text,
+            Err(panic) => panic
+                .downcast::<&str>()
+                .map_or("a panic".to_string(), |text| text.to_string()),
+        };
+        format!("the code panics: {text}")
+    })
 }

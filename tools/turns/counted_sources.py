@@ -5,10 +5,11 @@
 3. `std::num::` becomes `rattle_num::`: the functions that the library names there are Rattle's own, taken from the kit as they are.
 4. `extern "C"` becomes `extern "C-unwind"`, so that a sum that overflows ends the call and not the program.
 5. A loop's body starts with `turns::turn(K);`, the body of its function with `turns::run(K);`, and the body of a function that calls itself,
-   by way of others or not, with `let _call = turns::call(K);`.
+   by way of others or not, with `let _call = turns::call(K);`. In the crate `sums`, where every loop goes over all of the slice that its
+   function is lent, that starts with `let _run = turns::run_over(K, SLICE.len());` instead.
 
 Nothing else is changed: names, numbers, conditions, order and crates stay as they are. Of the kit just the functions that the library names are
-taken: `bytes::copy` and two that wrap.
+taken: `bytes::copy` and those that wrap.
 """
 import re
 import subprocess
@@ -19,6 +20,8 @@ from loops.library import LIBRARY, STANDARD, Library, lines_of_crates
 
 # Rust has a crate of the name that the kit's has.
 NAME_OF_STANDARD = "rattle_num"
+# The loops of this file go over all of what their function is lent, so that each run has to take what a formula says.
+FILE_OF_THE_SUM = "crates/sums/src/lib.rt"
 
 
 class CannotRun(Exception):
@@ -79,11 +82,22 @@ class Counters:
 
     def put_into(self, function, text):
         """The counters of one function, each with its place in the text of its file."""
-        head = "".join(f" turns::run({self.numbers[function, loop]});" for loop in function.loops)
+        head = "".join(" " + start_of_run(function, self.numbers[function, loop], text) for loop in function.loops)
         head += "".join(f" let _call = turns::call({number});" for number, cycle in enumerate(self.cycles) if function in cycle)
         yield function.body_start, head
         for loop in function.loops:
             yield text.index("{", loop.end) + 1, f" turns::turn({self.numbers[function, loop]});"
+
+
+def start_of_run(function, number, text):
+    """What the body of a loop's function starts with."""
+    if function.file != FILE_OF_THE_SUM:
+        return f"turns::run({number});"
+    head = text[text.rindex(f"fn {function.name}(", 0, function.body_start):function.body_start]
+    slices = re.findall(r"(\w+): &\[", head)
+    if len(slices) != 1:
+        raise CannotRun(f"{function.title} in {function.file} has a loop, and is not lent just one slice")
+    return f"let _run = turns::run_over({number}, {slices[0]}.len());"
 
 
 def with_insertions(text, insertions):
@@ -163,7 +177,7 @@ def longest_piece(crates):
     text = next(crate.texts["lib"] for crate in crates if crate.name == "sums")
     found = re.search(r"^const PIECE: usize = [0-9_]+;$", text, flags=re.M)
     if not found:
-        raise CannotRun("crates/sums/src/lib.rt has no `const PIECE`, the longest piece that is summed with no fold")
+        raise CannotRun(f"{FILE_OF_THE_SUM} has no `const PIECE`, the longest piece that is summed with no fold")
     return f"pub {found[0]}\n"
 
 
@@ -190,7 +204,7 @@ def driver_of(repository, kit, folder, shipped=None):
                    for word in ("--extern", f"{below}={folder}/lib{below}.rlib")]
         compiled(["--crate-type", "rlib", "--crate-name", crate.name, "--out-dir", folder, *externs, folder / crate.name / "lib.rs"], folder)
     program = folder / "driver"
-    externs = [word for name in ("turns", LIBRARY, "record") for word in ("--extern", f"{name}={folder}/lib{name}.rlib")]
+    externs = [word for name in ("turns", LIBRARY, "record", "sums") for word in ("--extern", f"{name}={folder}/lib{name}.rlib")]
     for source in here.glob("*.rs"):
         if source.name != "turns.rs":
             (folder / source.name).write_text(source.read_text())

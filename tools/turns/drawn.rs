@@ -12,8 +12,14 @@ const SEARCHES: usize = 3;
 
 pub struct Draws(u64);
 
+impl Default for Draws {
+    fn default() -> Draws {
+        Draws(0x9e37_79b9_7f4a_7c15)
+    }
+}
+
 impl Draws {
-    fn below(&mut self, end: usize) -> usize {
+    pub fn below(&mut self, end: usize) -> usize {
         self.0 ^= self.0 << 13;
         self.0 ^= self.0 >> 7;
         self.0 ^= self.0 << 17;
@@ -44,7 +50,7 @@ impl Draws {
 }
 
 pub fn each(run: Run) {
-    let mut draws = Draws(0x9e37_79b9_7f4a_7c15);
+    let mut draws = Draws::default();
     for number in 0..CALLS {
         let len = match draws.below(6) {
             0 => draws.below(120),
@@ -175,7 +181,7 @@ fn frame(draws: &mut Draws, len: usize) -> Vec<u8> {
     }
 }
 
-fn call(draws: &mut Draws, len: usize) -> Call {
+fn call(draws: &mut Draws, len: usize) -> Call<'static> {
     let any = draws.below(400);
     let room = draws.one_of(&[65_549, 65_549, 65_549, 2_048, 342, 341, 42, 41, 0, any]);
     let n = len.saturating_sub(draws.below(60));
@@ -188,7 +194,7 @@ fn call(draws: &mut Draws, len: usize) -> Call {
             frame: frame(draws, len),
         },
         8 => Call::Checksum {
-            data: draws.bytes(len),
+            data: draws.bytes(len).into(),
         },
         9 => Call::MakeIpFrame {
             payload: draws.bytes(n),
@@ -261,18 +267,18 @@ fn kept(store: &mut Store, outcome: Outcome) {
     }
 }
 
-fn send_of(_: &mut Draws, frame: Vec<u8>) -> Call {
+fn send_of(_: &mut Draws, frame: Vec<u8>) -> Call<'static> {
     Call::Send {
         frame,
         room: 65_549,
     }
 }
 
-fn read_of(_: &mut Draws, frame: Vec<u8>) -> Call {
+fn read_of(_: &mut Draws, frame: Vec<u8>) -> Call<'static> {
     Call::Read { frame }
 }
 
-fn take_of(draws: &mut Draws, frame: Vec<u8>) -> Call {
+fn take_of(draws: &mut Draws, frame: Vec<u8>) -> Call<'static> {
     let mut store = Store::empty();
     let number = |at: usize| u32::from_be_bytes(frame[at..at + 4].try_into().unwrap());
     let any = draws.below(65_536) as u32;
@@ -301,7 +307,7 @@ fn climb(
     len: usize,
     steps: usize,
     number: usize,
-    of: fn(&mut Draws, Vec<u8>) -> Call,
+    of: fn(&mut Draws, Vec<u8>) -> Call<'static>,
     run: Run,
 ) {
     let mut best = frame(draws, len);

@@ -10,7 +10,8 @@ mod rows;
 #[cfg(shipped)]
 mod shipped;
 
-use calls::{Call, Outcome};
+use calls::{Call, Outcome, caught};
+use drawn::Draws;
 use rows::{Row, row_of};
 use std::collections::BTreeMap;
 use std::fmt::Display;
@@ -20,6 +21,10 @@ use turns::Taken;
 const COLUMNS: [&str; 3] = ["1,514", "65,549", "any length"];
 const LENGTHS_OF_COLUMNS: [usize; 2] = [1_514, 65_549];
 const TOLD_DIFFERENCES: usize = 20;
+/// Where a checksum is held to the plain sum, what both start from beside a drawn number.
+const STARTS: [u16; 5] = [0, 1, 255, 256, 65_535];
+/// A longer input takes seconds, and both sums start from the drawn number alone.
+const LONG: usize = 2_000_000;
 
 /// The most that was counted of one thing, and the first input that took it.
 #[derive(Default)]
@@ -47,6 +52,8 @@ struct Tally {
     answers: BTreeMap<(&'static str, u32), usize>,
     /// What has to fit a formula of the page, and the first input of which it was counted.
     samples: BTreeMap<Sample, String>,
+    starts: Draws,
+    plain_sums: usize,
     differences: usize,
 }
 
@@ -103,16 +110,20 @@ impl Tally {
         }
     }
 
-    /// By the length that a builder or the checksum goes over: the turns of the call, and of each loop.
-    fn tell_length(&self, call: &Call, outcome: &Outcome, taken: &Taken) {
-        let goes_over = match call {
-            Call::Checksum { .. } => true,
-            _ => outcome.number == rows::REPLY,
-        };
-        if let (true, "built", Some(n)) = (goes_over, self.origin, call.data_length()) {
-            let loops: Vec<String> = taken.longest_run.iter().map(u64::to_string).collect();
-            let (function, whole) = (call.function(), taken.whole());
-            println!("length\t{function}\t{n}\t{whole}\t{}", loops.join(","));
+    /// The library's sum of what a checksum goes over, beside the plain one, which no exported function calls.
+    fn compare_with_plain_sum(&mut self, call: &Call, data: &[u8], told: &str) {
+        let drawn = self.starts.below(65_536) as u16;
+        let fixed = if data.len() < LONG { &STARTS[..] } else { &[] };
+        for start in fixed.iter().copied().chain([drawn]) {
+            self.plain_sums += 1;
+            match caught(|| (sums::sum(start, data), sums::plain(start, data))) {
+                Ok((sum, plain)) if sum == plain => {}
+                Ok((sum, plain)) => {
+                    let why = format!("from {start} on it sums to {sum}, and plainly to {plain}");
+                    self.differs(told, call, why);
+                }
+                Err(panic) => self.differs(told, call, panic),
+            }
         }
     }
 
@@ -121,7 +132,7 @@ impl Tally {
         let (outcome, taken) = match call.counted() {
             Ok(counted) => counted,
             Err(panic) => {
-                self.differs(&told, &call, format!("the code panics: {panic}"));
+                self.differs(&told, &call, panic);
                 return None;
             }
         };
@@ -137,7 +148,9 @@ impl Tally {
                 .entry((call.function(), outcome.number))
                 .or_default() += 1;
         }
-        self.tell_length(&call, &outcome, &taken);
+        if let Call::Checksum { data } = &call {
+            self.compare_with_plain_sum(&call, data, &told);
+        }
         #[cfg(shipped)]
         if call.run(&shipped::ShippedLibrary) != outcome {
             self.differs(
@@ -177,5 +190,9 @@ fn main() {
         let letters = letters.join(",");
         println!("sample\t{function}\t{title}\t{letters}\t{turns}\t{origin}\t{by}");
     }
+    for run in turns::runs_over() {
+        println!("run\t{}\t{}\t{}", run.k, run.n, run.turns);
+    }
+    println!("calls\tplain\t{}", tally.plain_sums);
     println!("differences\t{}", tally.differences);
 }

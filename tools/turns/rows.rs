@@ -4,7 +4,7 @@
 use crate::calls::{Call, Outcome, PAYLOAD_LIMIT};
 use crate::frames::*;
 
-pub const REPLY: u32 = 1;
+const REPLY: u32 = 1;
 const PASSED: u32 = 20;
 const STORED: u32 = 21;
 const COMPLETE: u32 = 22;
@@ -39,7 +39,6 @@ pub fn row_of(call: &Call, outcome: &Outcome) -> Row {
         Call::Take { store, frame } => of_take(store.state, frame, outcome.number),
         Call::Release { .. } if outcome.number == RELEASED => row("released", &[]),
         Call::Release { .. } => row("refused", &[]),
-        Call::Checksum { data } if data.is_empty() => row("no byte", &[]),
         Call::Checksum { data } => row("n bytes", &[('n', data.len())]),
         Call::MakeTcpFrame { flags, data, .. } if is_reply && flags & SYN != 0 => {
             row("built, with the SYN flag", &[('n', data.len())])
@@ -95,15 +94,15 @@ fn of_read(frame: &[u8]) -> Row {
     if !(34..=longest).contains(&frame.len()) || frame[TYPE_AT..ETHERNET] != [8, 0] {
         return row("anything else", &[]);
     }
-    let b = frame.len() - ETHERNET;
+    let (b, h) = (frame.len() - ETHERNET, header_of(frame));
     if frame[PROTOCOL_AT] == UDP && payload_at(frame) + 8 <= frame.len() {
         let (ports, data) = (ports_of(frame), frame.len() - payload_at(frame) - 8);
         let is_dhcp = ports == [67, 68] || ports == [68, 67];
         if is_dhcp && (FIXED..=LONGEST_MESSAGE).contains(&data) {
-            return row("a DHCP message", &[('b', b), ('m', data - FIXED)]);
+            return row("a DHCP message", &[('b', b), ('h', h), ('m', data - FIXED)]);
         }
     }
-    row("another IPv4 frame", &[('b', b)])
+    row("another IPv4 frame", &[('b', b), ('h', h)])
 }
 
 fn of_take(state: [u32; 6], frame: &[u8], answer: u32) -> Row {

@@ -1,5 +1,7 @@
 //! The counters. One call of the library is counted at a time: `start`, the call, `counted`.
 
+use std::collections::BTreeSet;
+use std::sync::Mutex;
 use std::sync::atomic::{AtomicU64, Ordering::Relaxed};
 
 const MOST: usize = 64;
@@ -10,9 +12,11 @@ static LONGEST_RUN: [AtomicU64; MOST] = [const { AtomicU64::new(0) }; MOST];
 static CALLS: [AtomicU64; MOST] = [const { AtomicU64::new(0) }; MOST];
 static DEPTH: [AtomicU64; MOST] = [const { AtomicU64::new(0) }; MOST];
 static DEEPEST: [AtomicU64; MOST] = [const { AtomicU64::new(0) }; MOST];
+static RUNS_OVER: Mutex<BTreeSet<RunOver>> = Mutex::new(BTreeSet::new());
 
-fn add_one(counter: &AtomicU64) -> u64 {
-    let more = counter.load(Relaxed) + 1;
+#[inline]
+fn add(counter: &AtomicU64, number: u64) -> u64 {
+    let more = counter.load(Relaxed) + number;
     counter.store(more, Relaxed);
     more
 }
@@ -23,22 +27,56 @@ fn raise(most: &AtomicU64, value: u64) {
     }
 }
 
-/// The function of loop `k` starts.
+/// The function of loop `k` starts: the turns of the run before are added to the others.
 pub fn run(k: usize) {
+    let turns = TURNS_OF_RUN[k].load(Relaxed);
+    add(&TURNS[k], turns);
+    raise(&LONGEST_RUN[k], turns);
     TURNS_OF_RUN[k].store(0, Relaxed);
+}
+
+/// A run of a function that goes over all of its `n` bytes: its loop `k`, and the turns of that.
+#[derive(Clone, PartialEq, Eq, PartialOrd, Ord)]
+pub struct RunOver {
+    pub k: usize,
+    pub n: usize,
+    pub turns: u64,
+}
+
+/// The function of loop `k` starts, to go over all of its `n` bytes; it has returned once this is dropped.
+pub fn run_over(k: usize, n: usize) -> Running {
+    run(k);
+    Running { k, n }
+}
+
+pub struct Running {
+    k: usize,
+    n: usize,
+}
+
+impl Drop for Running {
+    fn drop(&mut self) {
+        let (k, n) = (self.k, self.n);
+        let turns = TURNS_OF_RUN[k].load(Relaxed);
+        RUNS_OVER.lock().unwrap().insert(RunOver { k, n, turns });
+    }
+}
+
+/// All such runs of all calls until now, each once.
+pub fn runs_over() -> BTreeSet<RunOver> {
+    RUNS_OVER.lock().unwrap().clone()
 }
 
 /// Loop `k` takes a turn.
 #[inline]
 pub fn turn(k: usize) {
-    add_one(&TURNS[k]);
-    raise(&LONGEST_RUN[k], add_one(&TURNS_OF_RUN[k]));
+    add(&TURNS_OF_RUN[k], 1);
 }
 
 /// One of the functions of recursion `k` is called; it has returned once this is dropped.
 pub fn call(k: usize) -> Call {
-    add_one(&CALLS[k]);
-    raise(&DEEPEST[k], add_one(&DEPTH[k]));
+    add(&CALLS[k], 1);
+    raise(&DEEPEST[k], add(&DEPTH[k], 1));
     Call(k)
 }
 
@@ -84,6 +122,7 @@ pub fn start() {
 }
 
 pub fn counted() -> Taken {
+    (0..LOOPS.len()).for_each(run);
     let read = |counters: &[AtomicU64; MOST], len: usize| {
         counters[..len]
             .iter()
