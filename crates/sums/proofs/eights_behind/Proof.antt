@@ -31,7 +31,7 @@ Inv-loop so-far piece eights all₀ upper₀ k₀ all upper k = (k ≤ eights) �
 
 -- at the start it is the number of turns
 abbrev μ-loop : tie.MeasureT-loop
-μ-loop so-far piece eights all₀ upper₀ k₀ all upper k = eights - k
+μ-loop so-far piece eights all₀ upper₀ k₀ all upper k = length piece / 8 - k
 
 eight-at-requires : tie.Need-eight-at-requires Inv-loop μ-loop
 eight-at-requires c κs = search needs
