@@ -1,10 +1,10 @@
 -- Document 02, request 3/13, in its own words: a 32-bit total needs two folds and no more. Request 13/13 has totals of 64 bits: two folds lead from them to 32, and they stay inside 64.
-use Prim.Native.Nat.{ℕ, zero, suc, _+_, _*_, _/_, _%_, _≤_, _<_}
+use Prim.Native.Nat.{ℕ, zero, suc, _+_, _*_, _/_, _≤_, _<_}
 use mathlib.Core.Path.{_≡_, refl, sym, ap, _∙_}
 use mathlib.Core.List.{[], _∷_}
 use native.Mathlib.Omega.{arith}
 use Rattle.sums.specs.Rfc1071.{words, sum, total, fold}
-use Rattle.sums.specs.Folding.{foldTo16, foldTo32, longestPiece, mostFolded, mostBehind, mostUpper}
+use Rattle.sums.specs.Folding.{foldTo16, foldTo32, longestPiece, mostFolded, mostBehind}
 use Rattle.sums.proofs.Laws.{fold-zero, fold-pos, fold-any-rounds}
 
 -- "A 32-bit total needs two folds": they are RFC 1071's fold, of every such total,

@@ -1,6 +1,5 @@
 -- `folded_to_32` meets its contract: two folds of a 64-bit total have 32 bits, and fold to what it folds to.
 use mathlib.Core.Path.{ap, _∙_}
-use native.Mathlib.Omega.{arith}
 use borrow.Author.Needs.{needs}
 use Rattle.sums.specs.Rfc1071.{fold}
 use Rattle.sums.proofs.Folding.{fold-to-32}
