@@ -3,6 +3,8 @@
 #[path = "../oracle/amended.rs"]
 mod amended;
 mod callgrind;
+mod calls;
+mod counted;
 #[allow(dead_code)]
 #[path = "../oracle/draws.rs"]
 mod draws;
@@ -16,6 +18,7 @@ mod mended;
 #[allow(dead_code)]
 #[path = "../oracle/networks.rs"]
 mod networks;
+mod numbers;
 mod ours;
 mod reassembly;
 mod rounds;
@@ -26,12 +29,12 @@ mod stack;
 #[path = "../oracle/the_rust.rs"]
 mod the_rust;
 
+use numbers::{grouped, nanoseconds};
 use rounds::Timed;
-use rows::{Calls, Goal};
-use sides::Sides;
+use rows::{Goal, Row};
 
 const USAGE: &str = "usage: bench table [INSTRUCTIONS] | bench stack | bench count
-  INSTRUCTIONS  what bench/run makes of `bench count` under callgrind";
+  INSTRUCTIONS  what bench/count-instructions makes of `bench count`";
 
 fn main() {
     let words: Vec<String> = std::env::args().skip(1).collect();
@@ -49,21 +52,29 @@ fn main() {
 }
 
 fn print_table(instructions: &str) {
-    let mut counts = per_call(instructions).into_iter();
+    let mut counts = counted::per_call(instructions).into_iter();
     print_beside_the_rust(&mut counts);
     println!();
     print_reassembly(&mut counts);
 }
 
+/// The times of the sides of each row, in their order.
+fn timed(rows: &mut [Row]) -> Vec<[Option<Timed>; 3]> {
+    let sides = rows.iter_mut().map(|row| row.sides.as_mut().in_order());
+    rounds::by_turns(sides.collect())
+}
+
 fn print_beside_the_rust(counts: &mut impl Iterator<Item = u64>) {
     let mut rows = rows::all();
-    let times = rounds::timed(&mut rows);
+    let times = timed(&mut rows);
     println!(
         "| call | Rust, ns | ours, ns | ratio | goal | memcpy, ns | Rust, instructions | ours, instructions | memcpy, instructions |"
     );
     println!("|---|--:|--:|--:|---|--:|--:|--:|--:|");
     for (row, times) in rows.iter().zip(times) {
-        let ratio = times.rust.as_ref().map(|rust| times.ours.best / rust.best);
+        let [rust, ours, _] = &times;
+        let ratio = rust.as_ref().zip(ours.as_ref());
+        let ratio = ratio.map(|(rust, ours)| ours.best / rust.best);
         let goal = row.goal.zip(ratio);
         let goal = or_dash(goal.map(|(goal, ratio)| judged(goal, ratio)));
         let ratio = or_dash(ratio.map(|ratio| format!("{ratio:.2}")));
@@ -83,7 +94,7 @@ fn judged(goal: Goal, ratio: f64) -> String {
 
 fn print_reassembly(counts: &mut impl Iterator<Item = u64>) {
     let mut rows = reassembly::all();
-    let times = rounds::timed(&mut rows);
+    let times = timed(&mut rows);
     println!(
         "| call on a store | ours, ns | memcpy, ns | ours, instructions | memcpy, instructions |"
     );
@@ -104,8 +115,8 @@ struct Cells {
 }
 
 /// The cells of the Rust, of ours and of memcpy, with the next counts in them.
-fn cells(times: Sides<Timed>, counts: &mut impl Iterator<Item = u64>) -> [Cells; 3] {
-    times.in_order().map(|side| {
+fn cells(times: [Option<Timed>; 3], counts: &mut impl Iterator<Item = u64>) -> [Cells; 3] {
+    times.map(|side| {
         let (time, count) = side.map(|timed| (time(&timed), counts.next())).unzip();
         Cells {
             time: or_dash(time),
@@ -127,53 +138,13 @@ fn time(timed: &Timed) -> String {
     )
 }
 
-fn nanoseconds(number: f64) -> String {
-    if number < 99.95 {
-        return format!("{number:.1}");
-    }
-    grouped(number.round() as u64)
-}
-
-fn grouped(number: u64) -> String {
-    if number < 1_000 {
-        return number.to_string();
-    }
-    format!("{},{:03}", grouped(number / 1_000), number % 1_000)
-}
-
-/// How many calls are counted, once and once more: their difference leaves out what is not a call's.
-const COUNTED: [u64; 2] = [100, 200];
-
-/// Each side of each row in `bench_counted`, at whose ends callgrind writes down the instructions: on x86-64 it is told the
-/// name, and on Arm, where it loses sight of a function's end, it is asked.
+/// Each side of each row.
 fn count() {
     for row in rows::all().iter_mut().chain(&mut reassembly::all()) {
         for calls in row.sides.as_mut().in_order().into_iter().flatten() {
-            calls(COUNTED[0]);
-            for number in COUNTED {
-                bench_counted(calls, number);
-            }
+            counted::count(calls);
         }
     }
-}
-
-#[unsafe(no_mangle)]
-#[inline(never)]
-fn bench_counted(calls: &mut Calls, number: u64) {
-    callgrind::zero();
-    calls(number);
-    callgrind::dump();
-}
-
-/// What one call took, by the lines with both numbers of each side.
-fn per_call(instructions: &str) -> Vec<u64> {
-    let totals: Vec<u64> = instructions
-        .lines()
-        .map(|line| line.parse().expect(line))
-        .collect();
-    let calls = COUNTED[1] - COUNTED[0];
-    let of_one = |both: &[u64]| (both[1] - both[0] + calls / 2) / calls;
-    totals.chunks(2).map(of_one).collect()
 }
 
 fn print_stack() {

@@ -3,12 +3,14 @@
 use std::hint::black_box;
 use std::ops::Range;
 
+use crate::calls::calls;
 use crate::draws::GUEST_IP;
 use crate::guest_frames::{BODY_AT, ELSEWHERE, UDP, packet, with};
 use crate::inputs;
 use crate::mended::with_header_sum;
+use crate::numbers::grouped;
 use crate::ours::{self, State};
-use crate::rows::{Row, calls, copying};
+use crate::rows::{Row, copying};
 
 pub const BYTES: usize = 65_515;
 pub const WORDS: usize = 128;
@@ -30,7 +32,7 @@ pub fn all() -> Vec<Row> {
         let but_middle = |block: usize| !middle.contains(&block);
         let half_and_last = |block: usize| half(block) || block == BLOCKS - 1;
         let row = |how: &str, store, offset, answer| {
-            let name = format!("{} bytes, {how}", crate::grouped(len as u64));
+            let name = format!("{} bytes, {how}", grouped(len as u64));
             taking(name.leak(), store, offset, len, answer)
         };
         rows.extend([

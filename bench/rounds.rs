@@ -1,7 +1,6 @@
 //! The rounds: the sides of every row by turns, the best of each.
 
-use crate::rows::{Calls, Row};
-use crate::sides::Sides;
+use crate::calls::Calls;
 
 /// The machine may be busy: what disturbs one round is gone in another.
 const ROUNDS: usize = 41;
@@ -82,15 +81,15 @@ fn enough(calls: &mut Calls) -> u64 {
     number
 }
 
-/// The time of each side of each row.
-pub fn timed(rows: &mut [Row]) -> Vec<Sides<Timed>> {
-    let mut rows: Vec<Sides<Side>> = rows
-        .iter_mut()
-        .map(|row| row.sides.as_mut().map(Side::new))
+/// The time of each side of each row, with the gaps of those that the row doesn't have.
+pub fn by_turns<const N: usize>(rows: Vec<[Option<&mut Calls>; N]>) -> Vec<[Option<Timed>; N]> {
+    let mut rows: Vec<[Option<Side>; N]> = rows
+        .into_iter()
+        .map(|sides| sides.map(|calls| calls.map(Side::new)))
         .collect();
     for round in 0..ROUNDS {
         for sides in &mut rows {
-            let mut turns = sides.as_mut().in_order();
+            let mut turns = sides.each_mut();
             if round % 2 == 1 {
                 turns.reverse();
             }
@@ -100,6 +99,6 @@ pub fn timed(rows: &mut [Row]) -> Vec<Sides<Timed>> {
         }
     }
     rows.into_iter()
-        .map(|sides| sides.map(Side::timed))
+        .map(|sides| sides.map(|side| side.map(Side::timed)))
         .collect()
 }

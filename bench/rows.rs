@@ -7,6 +7,7 @@ use published::handed::{self, To};
 use published::{NetworkBackend, SlirpBackend};
 
 use crate::amended::{amended_datagram, pushed};
+use crate::calls::{Calls, calls};
 use crate::draws::{GUEST_IP, GUEST_MAC};
 use crate::guest_frames::{ELSEWHERE, dns_query};
 use crate::inputs;
@@ -14,9 +15,6 @@ use crate::networks::{BROADCAST, HERE};
 use crate::ours::{self, Guest, Network};
 use crate::sides::Sides;
 use crate::the_rust::IdCounter;
-
-/// Makes so many calls, one behind the other.
-pub type Calls = Box<dyn FnMut(u64)>;
 
 pub struct Row {
     pub name: &'static str,
@@ -149,14 +147,6 @@ pub fn all() -> Vec<Row> {
         ),
         empty_call("a call that does nothing", inputs::ipv6()),
     ]
-}
-
-pub fn calls(mut call: impl FnMut() + 'static) -> Calls {
-    Box::new(move |calls| {
-        for _ in 0..calls {
-            call();
-        }
-    })
 }
 
 /// memcpy of these bytes to this place in a buffer.

@@ -1,4 +1,4 @@
-//! The sides of a row: the calls that are timed by turns, or what was measured of each.
+//! The sides of a row: the calls that are timed by turns.
 
 pub struct Sides<T> {
     /// The published Rust, where it has the call.
@@ -19,14 +19,6 @@ impl<T> Sides<T> {
             rust: self.rust.as_mut(),
             ours: &mut self.ours,
             memcpy: self.memcpy.as_mut(),
-        }
-    }
-
-    pub fn map<U>(self, mut change: impl FnMut(T) -> U) -> Sides<U> {
-        Sides {
-            rust: self.rust.map(&mut change),
-            ours: change(self.ours),
-            memcpy: self.memcpy.map(change),
         }
     }
 }
