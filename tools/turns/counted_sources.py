@@ -5,8 +5,8 @@
 3. `std::num::` becomes `rattle_num::`: the functions that the library names there are Rattle's own, taken from the kit as they are.
 4. `extern "C"` becomes `extern "C-unwind"`, so that a sum that overflows ends the call and not the program.
 5. A loop's body starts with `turns::turn(K);`, the body of its function with `turns::run(K);`, and the body of a function that calls itself,
-   by way of others or not, with `let _call = turns::call(K);`. In the crate `sums`, where every loop goes over all of the slice that its
-   function is lent, that starts with `let _run = turns::run_over(K, SLICE.len());` instead.
+   by way of others or not, with `let _call = turns::call(K);`. In the crate `sums`, where the length of the slice that its
+   function is lent says how many turns a loop takes, that starts with `let _run = turns::run_over(K, SLICE.len());` instead.
 
 Nothing else is changed: names, numbers, conditions, order and crates stay as they are. Of the kit just the functions that the library names are
 taken: `bytes::copy` and those that wrap.
@@ -20,7 +20,7 @@ from loops.library import LIBRARY, STANDARD, Library, lines_of_crates
 
 # Rust has a crate of the name that the kit's has.
 NAME_OF_STANDARD = "rattle_num"
-# The loops of this file go over all of what their function is lent, so that each run has to take what a formula says.
+# The length of what its function is lent says how many turns a loop of this file takes, so that each run has to take what a formula says.
 FILE_OF_THE_SUM = "crates/sums/src/lib.rt"
 
 

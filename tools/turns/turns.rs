@@ -35,7 +35,7 @@ pub fn run(k: usize) {
     TURNS_OF_RUN[k].store(0, Relaxed);
 }
 
-/// A run of a function that goes over all of its `n` bytes: its loop `k`, and the turns of that.
+/// A run of a function that is lent `n` bytes: its loop `k`, and the turns of that.
 #[derive(Clone, PartialEq, Eq, PartialOrd, Ord)]
 pub struct RunOver {
     pub k: usize,

@@ -82,6 +82,6 @@ fold-bound-is-met = refl
 pub inside-64-bits : (n : ℕ) → n ≤ longestPiece → mostBehind ((n + 3) / 4) < 18446744073709551616
 inside-64-bits n h = omega arith
 
--- A piece might have up to 17,179,869,180 bytes, and no more.
+-- By this bound a piece might have 17,179,869,180 bytes, and not four more.
 pub no-longer-piece : (mostBehind (17179869180 / 4) < 18446744073709551616) × (18446744073709551616 ≤ mostBehind (17179869180 / 4 + 1))
 no-longer-piece = (omega arith, omega arith)

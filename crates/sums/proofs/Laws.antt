@@ -1,4 +1,4 @@
--- Laws of the RFC 1071 sum: what a fold is, by its remainder; pieces of even length are summed one after the other.
+-- Laws of the RFC 1071 sum: what a fold is, by its remainder; inputs of even length are summed one after the other; two, four and eight bytes are added low byte first.
 use Prim.Native.Nat.{ℕ, zero, suc, _+_, _*_, _-_, _/_, _%_, _≤_, _<_}
 use mathlib.Core.Path.{_≡_, refl, ap, sym, _∙_}
 use mathlib.Core.List.{List, [], _∷_, _++_, append-assoc}

@@ -1,5 +1,5 @@
 // The Internet checksum of RFC 1071, right at every length. Document 02, request 13/13: eight bytes are taken a
-// step where there are eight, low byte first, as the machine loads them. 65,536 folds to 1, and so does each of
+// step where there are eight, low byte first, as x86-64 and Arm load them. 65,536 folds to 1, and so does each of
 // its powers, so four bytes count as the number that they are, and the two bytes of the sum are exchanged at the
 // end: RFC 1071, section 2, (B) "byte order independence" and (C) "parallel summation". Request 3/13: a long
 // input is folded on the way, so that no total leaves 64 bits, and every fold is a straight step. The plain sum,
@@ -23,7 +23,7 @@ pub fn checksum(input: &[u8]) -> u16
     65535 - sum(0, input)
 }
 
-// The folded sum `start` continued over `input`. So several pieces are summed with no copy that
+// The folded sum `start` continued over `input`. So several inputs are summed with no copy that
 // joins them, as long as each but the last has an even length.
 pub fn sum(start: u16, input: &[u8]) -> u16
     ensures { λ r. ⌜ r ≡ fold (start + total (now (input .entry))) ⌝ }
@@ -46,8 +46,8 @@ fn folded_in(so_far: u64, next: u64) -> u64
     folded_once(so_far + folded_once(next))
 }
 
-// The running total behind `piece`, with no fold inside. 256 times this folds to what 256 times the former and the
-// words of the piece themselves fold to.
+// The total behind `piece`, with no fold inside. 256 times this folds to what 256 times `so_far` and the words of the
+// piece themselves fold to.
 fn total_behind(so_far: u64, piece: &[u8]) -> u64
     requires { ⌜ («so_far» ≤ mostFolded) × (length (now piece) ≤ longestPiece) ⌝ }
     ensures { λ r. ⌜ fold (r * 256) ≡ fold («so_far» * 256 + total (now (piece .entry))) ⌝ }
@@ -57,8 +57,8 @@ fn total_behind(so_far: u64, piece: &[u8]) -> u64
 }
 
 // The same behind the eights of `piece` alone. The eight bytes of a step are added as one number, with no regard to
-// what is carried out of 64 bits, and their upper half by itself once more: that tells the sum of the lower halves.
-// Most inputs are short, so where there are no eights nothing is told.
+// what is carried out of 64 bits, and their upper half by itself once more: that tells the sum of the lower halves,
+// `so_far` among them. Below eight bytes all this is passed over.
 fn eights_behind(so_far: u64, piece: &[u8]) -> u64
     requires { ⌜ («so_far» ≤ mostFolded) × (length (now piece) ≤ longestPiece) ⌝ }
     ensures { λ r. ⌜ fold (r * 256 + total (drop (length (now (piece .entry)) / 8 * 8) (now (piece .entry)))) ≡ fold («so_far» * 256 + total (now (piece .entry))) ⌝ }
@@ -82,21 +82,22 @@ fn eights_behind(so_far: u64, piece: &[u8]) -> u64
 
 // The upper half of a step's eight bytes added to those of the `k` steps before it.
 fn with_upper_half(upper: u64, next: u64, k: usize) -> u64
-    requires { ⌜ (upper ≤ mostUpper k) × (k < longestPiece) ⌝ }
+    requires { ⌜ (upper ≤ mostUpper k) × (k < longestPiece / 8) ⌝ }
     ensures { λ r. ⌜ r ≡ upper + next / 2 ^ 32 ⌝ }
     ensures { λ r. ⌜ r ≤ mostUpper (k + 1) ⌝ }
 {
     upper + next / 4294967296
 }
 
-// The sum of the lower halves, of the sum of all, modulo 2^64, and of that of the upper halves.
+// The sum of the lower halves, from the sum of all modulo 2^64 and the sum of the upper halves.
 fn lower_halves(all: u64, upper: u64) -> u64
     ensures { λ r. ⌜ (r + upper * 2 ^ 32) % 2 ^ 64 ≡ all ⌝ }
 {
     wrapping_sub_u64(all, upper % 4294967296 * 4294967296)
 }
 
-// What is left of a piece behind its eights: word by word, and an odd last byte as a low half.
+// What is left of a piece behind its eights: word by word, and an odd last byte with a 0 behind it. (That is the
+// word's low byte here, and its high half, as RFC 1071 has it, once the sum's bytes are exchanged.)
 fn with_tail(so_far: u64, rest: &[u8]) -> u64
     requires { ⌜ (length (now rest) < 8) × («so_far» ≤ mostBehind (longestPiece / 4)) ⌝ }
     ensures { λ r. ⌜ fold (r * 256) ≡ fold («so_far» * 256 + total (now (rest .entry))) ⌝ }
@@ -132,7 +133,7 @@ fn folded(total: u64) -> u16
 
 // Two folds are enough for 64 bits: the first leaves at most 8,589,934,590, the second at most 4,294,967,295.
 fn folded_to_32(total: u64) -> u32
-    ensures { λ r. ⌜ fold r ≡ fold total ⌝ }
+    ensures { λ r. ⌜ r ≡ foldTo32 (foldTo32 total) ⌝ }
 {
     let once = folded_once(total);
     let twice = folded_once(once);
@@ -208,7 +209,7 @@ fn widened(n: u16) -> u64
 }
 
 // The same sum as `sum`, as a reader would write it: two bytes a step, the high one first, with a fold at each.
-// No call of the library makes it.
+// No exported function calls it.
 pub fn plain(start: u16, input: &[u8]) -> u16
     ensures { λ r. ⌜ r ≡ fold (start + total (now (input .entry))) ⌝ }
 {

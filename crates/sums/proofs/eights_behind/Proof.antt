@@ -1,12 +1,12 @@
 -- `eights_behind` meets its contract. The invariant: there is a sum of the lower halves, which the sum of all tells; 256 times the sums so far and the
--- sum of what is left fold as the whole; and neither is larger than as many halves can be.
+-- sum of what is left fold as the whole; and each is as large as as many halves can be at most, the lower ones with what was there before.
 use Prim.Native.Nat.{ℕ, _+_, _*_, _-_, _/_, _%_, _^_, _≤_, _<_}
 use mathlib.Core.List.{List}
 use mathlib.Core.Path.{_≡_, ap, sym, _∙_}
 use native.Mathlib.Omega.{arith}
 use borrow.Author.Needs.{needs}
 use lib.ListN.{length, drop}
-use Rattle.sums.specs.Folding.{mostFolded, mostUpper}
+use Rattle.sums.specs.Folding.{mostBehind, mostUpper}
 use Rattle.sums.specs.Rfc1071.{total, fold}
 use Rattle.sums.proofs.Laws.{fold-eight}
 use Rattle.sums.proofs.eights_behind.Statement.{statement}
@@ -16,7 +16,7 @@ record Halves (so-far : ℕ) (piece : List ℕ) (all upper k : ℕ) : Type 0 whe
   lower : ℕ
   tells : all ≡ (lower + upper * 2 ^ 32) % 2 ^ 64
   folds : fold ((lower + upper) * 256 + total (drop (k * 8) piece)) ≡ fold (so-far * 256 + total piece)
-  lower-le : lower ≤ mostFolded + 4294967295 * k
+  lower-le : lower ≤ mostBehind k
   upper-le : upper ≤ mostUpper k
 
 -- what is carried out of the sum of all is lost, and the sum of the lower halves is not
