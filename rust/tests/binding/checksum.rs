@@ -59,22 +59,11 @@ fn lengths_past_a_piece() {
         for (part, place) in parts.chunks(FILLED).zip(places) {
             bytes[place..place + FILLED].copy_from_slice(part);
         }
-        for len in [
-            PIECE - 1,
-            PIECE,
-            PIECE + 1,
-            PIECE + 7,
-            PIECE + 8,
-            PIECE + 9,
-            PIECE + 16,
-            PIECE + 23,
-            PIECE + 4_098,
-            PIECE + FILLED - 1,
-            PIECE + FILLED,
-        ] {
+        for past in [0, 1, 7, 8, 9, 16, 23, 4_098, FILLED - 1, FILLED] {
+            let len = PIECE + past;
             assert_eq!(
                 yavoledu::checksum(&bytes[..len]),
-                frames::checksum(&parts[..3 * FILLED + len - PIECE]),
+                frames::checksum(&parts[..3 * FILLED + past]),
                 "{len}"
             );
         }
