@@ -38,25 +38,25 @@ folded-once (suc s) h = rw (fold-pos (suc s) (omega arith)) (omega arith)
 pub third-changes-nothing : (s : ℕ) → s < 4294967296 → foldTo16 (foldTo16 (foldTo16 s)) ≡ foldTo16 (foldTo16 s)
 third-changes-nothing s h = let below = folded-twice-below s h in omega (arith, below)
 
--- A fold to 32 bits changes nothing in RFC 1071's fold, of any number, nor in that of 256 times it and more,
+-- A fold to 32 bits changes nothing in RFC 1071's fold, of any number, nor in that of 256 times it and more.
 pub fold-to-32-scaled : (s u : ℕ) → fold (foldTo32 s * 256 + u) ≡ fold (s * 256 + u)
 fold-to-32-scaled s u = sym (fold-any-rounds (foldTo32 s * 256 + u) (s / 4294967296 * 16777472) (λ e. omega arith)) ∙ ap fold (omega arith)
 
 pub fold-to-32 : (s : ℕ) → fold (foldTo32 s) ≡ fold s
 fold-to-32 s = sym (fold-any-rounds (foldTo32 s) (s / 4294967296 * 65537) (λ e. omega arith)) ∙ ap fold (omega arith)
 
--- the first of which leaves 8,589,934,590 at most, of a total of 64 bits;
+-- Of two such folds of a 64-bit total the first leaves 8,589,934,590 at most;
 pub to-32-once-leaves : (s : ℕ) → s < 18446744073709551616 → foldTo32 s ≤ 8589934590
 to-32-once-leaves s h = omega arith
 
--- one is not always enough: of 8,589,934,591 it leaves 33 bits; no smaller total needs a second,
+-- one is not always enough: of 8,589,934,591 it leaves 33 bits; no smaller total needs a second;
 pub to-32-one-is-not-enough : foldTo32 8589934591 ≡ 4294967296
 to-32-one-is-not-enough = refl
 
 pub to-32-one-below : (s : ℕ) → s < 8589934591 → foldTo32 s < 4294967296
 to-32-one-below s h = omega arith
 
--- which therefore leaves 32 bits,
+-- so the second leaves 32 bits,
 pub to-32-twice-below : (s : ℕ) → s < 18446744073709551616 → foldTo32 (foldTo32 s) < 4294967296
 to-32-twice-below s h = to-32-one-below (foldTo32 s) (let leaves = to-32-once-leaves s h in omega (arith, leaves))
 
