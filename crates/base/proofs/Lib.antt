@@ -3,3 +3,4 @@ pub mod Lists
 pub mod Front
 pub mod Telling
 pub mod Runs
+pub mod Counting

@@ -1,7 +1,7 @@
 -- Isolation, once for every kind of state and call: a guest among others is served as if it were alone, so what it gets hangs on its own state and its own questions.
 use Prim.Native.Nat.{ℕ}
 use mathlib.Core.Bool.{Bool, true, false, cond}
-use mathlib.Core.List.{List, [], _∷_}
+use mathlib.Core.List.{List, [], _∷_, _++_}
 use mathlib.Core.Path.{_≡_, refl, ap, ap₂, sym, subst}
 use native.Mathlib.Omega.{arith}
 use borrow.Author.Tests.{eqb-true}
@@ -63,7 +63,7 @@ module _ {S C A G : Type 0} (Keeps : S → C → Type 0) (after : C → S) (aske
 
 -- What every call keeps holds behind any run of them.
 module _ {S C : Type 0} (Keeps : S → C → Type 0) (after : C → S) (Holds : S → Type 0) (kept : (state : S) (call : C) → Holds state → Keeps state call → Holds (after call)) where
-  holds-after : (state : S) (calls : List C) → Holds state → Runs Keeps after state calls → Holds (leaves Keeps after state calls)
+  pub holds-after : (state : S) (calls : List C) → Holds state → Runs Keeps after state calls → Holds (leaves Keeps after state calls)
   holds-after state [] h r = h
   holds-after state (call ∷ rest) h (keeps, then) = holds-after (after call) rest (kept state call h keeps) then
 
@@ -72,3 +72,17 @@ module _ {S C : Type 0} (Keeps : S → C → Type 0) (after : C → S) (Holds : 
       → Holds (leavesAll Keeps after who host calls guest)
   holds-throughout who host calls guest h s =
       subst Holds (sym (left-alone Keeps after who host calls guest)) (holds-after (host guest) (callsOf who guest calls) h (as-if-alone Keeps after who host calls guest s))
+
+-- A run of two parts is a run of each: of the first, and of the second from what the first leaves.
+module _ {S C : Type 0} (Keeps : S → C → Type 0) (after : C → S) where
+  pub runs-before : (state : S) (earlier later : List C) → Runs Keeps after state (earlier ++ later) → Runs Keeps after state earlier
+  runs-before state [] later r = tt
+  runs-before state (call ∷ rest) later (kept, then) = (kept, runs-before (after call) rest later then)
+
+  pub runs-behind : (state : S) (earlier later : List C) → Runs Keeps after state (earlier ++ later) → Runs Keeps after (leaves Keeps after state earlier) later
+  runs-behind state [] later r = r
+  runs-behind state (call ∷ rest) later (kept, then) = runs-behind (after call) rest later then
+
+  pub leaves-behind : (state : S) (earlier later : List C) → leaves Keeps after state (earlier ++ later) ≡ leaves Keeps after (leaves Keeps after state earlier) later
+  leaves-behind state [] later = refl
+  leaves-behind state (call ∷ rest) later = leaves-behind (after call) rest later

@@ -2,7 +2,7 @@
 -- made on this state, was answered as promised; `after call` is the state that it left.
 use Prim.Native.Nat.{ℕ}
 use mathlib.Core.Bool.{cond}
-use mathlib.Core.List.{List, [], _∷_}
+use mathlib.Core.List.{List, [], _∷_, _++_}
 use lib.Dec.{eqb}
 
 module _ {S C : Type 0} (Keeps : S → C → Type 0) (after : C → S) where
@@ -40,3 +40,35 @@ module _ {S C : Type 0} (Keeps : S → C → Type 0) (after : C → S) (who : C 
 abbrev pub each : {C A : Type 0} → (C → A) → List C → List A
 each told [] = []
 each told (call ∷ rest) = told call ∷ each told rest
+
+-- A run in which the host may put another state in the place of the one that its calls left: a step of it is a call, or such a change.
+pub data Step (S C : Type 0) : Type 0 where
+  called : C → Step S C
+  replaced : (who : ℕ) → S → Step S C
+
+-- A step is kept: its call is, or the state that is put in place is a possible one.
+abbrev pub StepKeeps : {S C : Type 0} → (S → C → Type 0) → (Possible : S → Type 0) → S → Step S C → Type 0
+StepKeeps Keeps Possible state (called call) = Keeps state call
+StepKeeps Keeps Possible state (replaced who other) = Possible other
+
+-- the state that a step leaves
+abbrev pub stepLeaves : {S C : Type 0} → (C → S) → Step S C → S
+stepLeaves after (called call) = after call
+stepLeaves after (replaced who other) = other
+
+-- whose state it is on
+abbrev pub stepOf : {S C : Type 0} → (C → ℕ) → Step S C → ℕ
+stepOf who (called call) = who call
+stepOf who (replaced guest other) = guest
+
+-- steps in none of which the state is replaced
+abbrev pub Unreplaced : {S C : Type 0} → List (Step S C) → Type 0
+Unreplaced [] = Unit
+Unreplaced (called call ∷ rest) = Unreplaced rest
+Unreplaced (replaced who other ∷ rest) = ⊥
+
+-- what the calls of these steps made, in order, each any number of things
+abbrev pub gathered : {S C A : Type 0} → (C → List A) → List (Step S C) → List A
+gathered made [] = []
+gathered made (called call ∷ rest) = made call ++ gathered made rest
+gathered made (replaced who other ∷ rest) = gathered made rest

@@ -10,7 +10,6 @@ use lib.ListN.{length, getD, take, drop}
 use lib.Seq.{take-append-seam, drop-append-seam}
 use Rattle.record.specs.Answer.{paper, Meets}
 use Rattle.record.specs.Guest.{Settled, Sized, spent}
-use Rattle.record.specs.Network.{FourBytes}
 use Rattle.record.specs.declared.answer.Answer.{Answer}
 use Rattle.record.specs.declared.guest.Guest.{Guest}
 use Rattle.record.specs.declared.answer.Verdict.{Verdict}
@@ -61,10 +60,6 @@ framed guest next need image before after answer e p m =
     (λ f.
     let m′ = rw f at m in
     fits (omega (arith, e, p)) (omega (arith, ltb-false (length before) need f, e)) (paper-one-to-one _ (Verdict.Reply (length image)) (m′ .wrote .numbers ∙ ap (λ (n : ℕ). 1 ∷ n ∷ []) (sym e))) (m′ .guest) (m′ .wrote .bytes))
-
--- a record keeps the lengths of its arrays
-pub still-sized : {guest next : Guest} → Settled guest next → Sized guest → Sized next
-still-sized s sized = record { mac = ap length (s .mac-kept) ∙ sized .mac; network = subst FourBytes (sym (s .network-kept)) (sized .network) }
 
 -- whatever the answer, MAC and network are as they were
 pub settled : (guest : Guest) (frame before after : List ℕ) (answer : Answer) → Meets (outcome guest frame (length before)) before after answer → Settled guest (answer .guest)

@@ -21,7 +21,8 @@ use Rattle.echo_reply.proofs.ReadBack.{AnswersEcho, echo-reads-back, echo-frame
 use Rattle.frames.proofs.ReadBack.{FrameOf}
 use Rattle.dhcp_reply.proofs.FrameReadBack.{AnswersDhcp, dhcp-reads-back}
 use Rattle.laws.specs.Table.{built, replyAtAmpleRoom}
-use Rattle.laws.proofs.Demand1.{on-one, still-sized}
+use Rattle.laws.proofs.Demand1.{on-one}
+use Rattle.record.proofs.Changes.{still-sized}
 
 -- what a reply is, by the decision behind it; the other decisions build none
 pub Reads : Guest → (frame reply : List ℕ) → Decision → Type 0

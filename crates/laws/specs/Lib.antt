@@ -1,5 +1,4 @@
 pub mod Marked
 pub mod Table
-pub mod Host
 pub mod Derivations
 pub mod OwnNetwork

@@ -1,6 +1,6 @@
 -- When a call that builds answers 6, 5 and 1, and what each changes: on 6 and 5 neither the record nor one byte.
 use Prim.Native.Nat.{ℕ, _≤_, _<_}
-use mathlib.Core.Path.{_≡_, refl, ap, _∙_}
+use mathlib.Core.Path.{_≡_, refl, ap, sym, subst, _∙_}
 use mathlib.Core.Bool.{Bool, true, false, cond}
 use mathlib.Core.List.{List, [], _∷_, _++_}
 use native.Mathlib.Omega.{arith}
@@ -9,11 +9,16 @@ use lib.ListN.{length, drop}
 use lib.Seq.{drop-append-seam}
 use lib.Dec.{ltb}
 use Rattle.record.specs.Answer.{paper, Wrote, Meets, building, spending}
-use Rattle.record.specs.Guest.{Settled, spent}
+use Rattle.record.specs.Guest.{Settled, Sized, spent}
+use Rattle.record.specs.Network.{FourBytes}
 use Rattle.record.specs.declared.guest.Guest.{Guest}
 use Rattle.record.specs.declared.answer.Answer.{Answer}
 use Rattle.record.specs.declared.answer.Verdict.{Verdict}
 use Rattle.base.proofs.Choice.{by-test}
+
+-- a record that keeps its MAC and its network keeps the lengths of its arrays
+pub still-sized : {guest next : Guest} → Settled guest next → Sized guest → Sized next
+still-sized s sized = record { mac = ap length (s .mac-kept) ∙ sized .mac; network = subst FourBytes (sym (s .network-kept)) (sized .network) }
 
 module _ (limit len need room : ℕ) (image before after : List ℕ) where
   -- the three cases of a call that answers a verdict

@@ -1,0 +1,114 @@
+-- A counter of 16 bits over any run of calls: if each call shows it and moves it on by 1, or does neither, then what is shown counts on, from
+-- wherever the counter was last put. By induction over the steps.
+use Prim.Native.Nat.{ℕ, zero, suc, _+_, _%_, _<_}
+use mathlib.Core.Path.{_≡_, refl, ap, sym, subst, _∙_}
+use mathlib.Core.List.{List, [], _∷_, _++_}
+use native.Mathlib.Omega.{arith}
+use lib.ListN.{length, getD, drop, length-take, length-drop}
+use lib.Seq.{getD-take, getD-drop}
+use Rattle.base.specs.Bytes.{part}
+use Rattle.base.specs.Counting.{AllDifferent, CountsOn}
+use Rattle.base.specs.Runs.{Runs, leaves, each, Step, called, replaced, StepKeeps, stepLeaves, Unreplaced, gathered}
+use Rattle.base.proofs.Runs.{runs-before, runs-behind, holds-after}
+
+-- all that is said of numbers that count on follows from what each of them is
+module _ (start : ℕ) (numbers : List ℕ) (is : (k : ℕ) → k < length numbers → getD numbers k 0 ≡ (start + k) % 65536) where
+  in-a-row : (i : ℕ) → AllDifferent (part numbers i 65536)
+  in-a-row i j k less there same =
+      let long = length-take 65536 (drop i numbers) in
+      let behind = length-drop i numbers in
+      let near : k < 65536 = omega (arith, long) in
+      let first : getD (part numbers i 65536) j 0 ≡ (start + (i + j)) % 65536 =
+      getD-take 65536 (drop i numbers) j 0 (omega arith) ∙ getD-drop i numbers j 0 ∙ is (i + j) (omega (arith, long, behind)) in
+      let second : getD (part numbers i 65536) k 0 ≡ (start + (i + k)) % 65536 =
+      getD-take 65536 (drop i numbers) k 0 near ∙ getD-drop i numbers k 0 ∙ is (i + k) (omega (arith, long, behind)) in
+      omega (arith, first, second, same)
+
+  pub counts-on : CountsOn start numbers
+  counts-on =
+      record {
+        number = is;
+        different-in-a-row = in-a-row;
+        same-are-apart = λ i j less there same. omega (arith, is i (omega arith), is j there, same);
+        apart-are-same = λ i j less there apart. omega (arith, is i (omega arith), is j there, apart);
+      }
+
+-- what one call does with the counter: it makes nothing and leaves it, or makes one thing that shows it and moves it on
+pub data Counted {F : Type 0} (mark : F → ℕ) (now : ℕ) (made : List F) (then : ℕ) : Type 0 where
+  none : made ≡ [] → then ≡ now → Counted mark now made then
+  one : (thing : F) → made ≡ thing ∷ [] → mark thing ≡ now → then ≡ (now + 1) % 65536 → Counted mark now made then
+
+module _ {S C F : Type 0} (Keeps : S → C → Type 0) (after : C → S) (Possible : S → Type 0) (next : S → ℕ) (made : C → List F) (mark : F → ℕ)
+    (in-16-bits : (state : S) → Possible state → next state < 65536)
+    (stays : (state : S) (call : C) → Possible state → Keeps state call → Possible (after call))
+    (once : (state : S) (call : C) → Possible state → Keeps state call → Counted mark (next state) (made call) (next (after call))) where
+  abbrev Run : S → List (Step S C) → Type 0
+  Run = Runs (StepKeeps Keeps Possible) (stepLeaves after)
+
+  abbrev left : S → List (Step S C) → S
+  left = leaves (StepKeeps Keeps Possible) (stepLeaves after)
+
+  abbrev marks : List (Step S C) → List ℕ
+  marks steps = each mark (gathered made steps)
+
+  -- thing number k shows the counter's start plus k
+  numbered : (state : S) (steps : List (Step S C)) → Possible state → Run state steps → Unreplaced steps
+      → (k : ℕ) → k < length (marks steps) → getD (marks steps) k 0 ≡ (next state + k) % 65536
+  numbered state [] possible run unreplaced k there = absurd (omega arith)
+  numbered state (replaced who other ∷ rest) possible run unreplaced k there = absurd unreplaced
+  numbered state (called call ∷ rest) possible (kept, run) unreplaced k there =
+      go (once state call possible kept) (numbered (after call) rest (stays state call possible kept) run unreplaced) k there
+    where
+      go : Counted mark (next state) (made call) (next (after call))
+          → ((k : ℕ) → k < length (marks rest) → getD (marks rest) k 0 ≡ (next (after call) + k) % 65536)
+          → (k : ℕ) → k < length (marks (called call ∷ rest)) → getD (marks (called call ∷ rest)) k 0 ≡ (next state + k) % 65536
+      go (none e stood) ih k there =
+          let same : marks (called call ∷ rest) ≡ marks rest = ap (λ (l : List F). each mark (l ++ gathered made rest)) e in
+          ap (λ (l : List ℕ). getD l k 0) same ∙ ih k (omega (arith, ap length same)) ∙ ap (λ (n : ℕ). (n + k) % 65536) stood
+      go (one thing e shown moved) ih zero there =
+          let same : marks (called call ∷ rest) ≡ mark thing ∷ marks rest = ap (λ (l : List F). each mark (l ++ gathered made rest)) e in
+          ap (λ (l : List ℕ). getD l 0 0) same ∙ omega (arith, shown, in-16-bits state possible)
+      go (one thing e shown moved) ih (suc k) there =
+          let same : marks (called call ∷ rest) ≡ mark thing ∷ marks rest = ap (λ (l : List F). each mark (l ++ gathered made rest)) e in
+          ap (λ (l : List ℕ). getD l (suc k) 0) same ∙ ih k (omega (arith, ap length same)) ∙ omega (arith, moved)
+
+  -- and behind them the counter is its start plus their number
+  stands : (state : S) (steps : List (Step S C)) → Possible state → Run state steps → Unreplaced steps
+      → next (left state steps) ≡ (next state + length (marks steps)) % 65536
+  stands state [] possible run unreplaced = omega (arith, in-16-bits state possible)
+  stands state (replaced who other ∷ rest) possible run unreplaced = absurd unreplaced
+  stands state (called call ∷ rest) possible (kept, run) unreplaced =
+      go (once state call possible kept) (stands (after call) rest (stays state call possible kept) run unreplaced)
+    where
+      go : Counted mark (next state) (made call) (next (after call)) → next (left (after call) rest) ≡ (next (after call) + length (marks rest)) % 65536
+          → next (left (after call) rest) ≡ (next state + length (marks (called call ∷ rest))) % 65536
+      go (none e stood) ih =
+          let same : marks (called call ∷ rest) ≡ marks rest = ap (λ (l : List F). each mark (l ++ gathered made rest)) e in
+          omega (arith, ih, stood, ap length same)
+      go (one thing e shown moved) ih =
+          let same : marks (called call ∷ rest) ≡ mark thing ∷ marks rest = ap (λ (l : List F). each mark (l ++ gathered made rest)) e in
+          omega (arith, ih, moved, ap length same)
+
+  -- what every step keeps
+  step-stays : (state : S) (step : Step S C) → Possible state → StepKeeps Keeps Possible state step → Possible (stepLeaves after step)
+  step-stays state (called call) possible kept = stays state call possible kept
+  step-stays state (replaced who other) possible kept = kept
+
+  -- So in any stretch of a run in which the state isn't replaced, what is shown counts on from where the steps before it left the counter.
+  module _ (state : S) (earlier stretch later : List (Step S C)) (possible : Possible state) (run : Run state (earlier ++ stretch ++ later)) (unreplaced : Unreplaced stretch) where
+    up-to-its-end : Run state (earlier ++ stretch)
+    up-to-its-end = runs-before (StepKeeps Keeps Possible) (stepLeaves after) state (earlier ++ stretch) later run
+
+    its-run : Run (left state earlier) stretch
+    its-run = runs-behind (StepKeeps Keeps Possible) (stepLeaves after) state earlier stretch up-to-its-end
+
+    possible-there : Possible (left state earlier)
+    possible-there =
+        holds-after (StepKeeps Keeps Possible) (stepLeaves after) Possible step-stays state earlier possible
+        (runs-before (StepKeeps Keeps Possible) (stepLeaves after) state earlier stretch up-to-its-end)
+
+    pub stretch-counts-on : CountsOn (next (left state earlier)) (marks stretch)
+    stretch-counts-on = counts-on (next (left state earlier)) (marks stretch) (numbered (left state earlier) stretch possible-there its-run unreplaced)
+
+    pub stretch-leaves : next (left (left state earlier) stretch) ≡ (next (left state earlier) + length (marks stretch)) % 65536
+    stretch-leaves = stands (left state earlier) stretch possible-there its-run unreplaced
