@@ -2,14 +2,14 @@
 -- wherever the counter was last put. By induction over the steps.
 use Prim.Native.Nat.{ℕ, zero, suc, _+_, _%_, _<_}
 use mathlib.Core.Path.{_≡_, refl, ap, sym, subst, _∙_}
-use mathlib.Core.List.{List, [], _∷_, _++_}
+use mathlib.Core.List.{List, [], _∷_, _++_, append-assoc, append-nil}
 use native.Mathlib.Omega.{arith}
 use lib.ListN.{length, getD, drop, length-take, length-drop}
 use lib.Seq.{getD-take, getD-drop}
 use Rattle.base.specs.Bytes.{part}
 use Rattle.base.specs.Counting.{AllDifferent, CountsOn}
-use Rattle.base.specs.Runs.{Runs, leaves, each, Step, called, replaced, StepKeeps, stepLeaves, Unreplaced, gathered}
-use Rattle.base.proofs.Runs.{runs-before, runs-behind, holds-after}
+use Rattle.base.specs.Runs.{callsOf, each, Step, called, replaced, stepLeaves, stepOf, Unreplaced, gathered, StepKeeps, StepRuns, stepsLeave, StepServes, Stretch}
+use Rattle.base.proofs.Runs.{as-if-alone, holds-after, runs-before, runs-behind, leaves-behind}
 
 -- all that is said of numbers that count on follows from what each of them is
 module _ (start : ℕ) (numbers : List ℕ) (is : (k : ℕ) → k < length numbers → getD numbers k 0 ≡ (start + k) % 65536) where
@@ -38,15 +38,25 @@ pub data Counted {F : Type 0} (mark : F → ℕ) (now : ℕ) (made : List F) (th
   none : made ≡ [] → then ≡ now → Counted mark now made then
   one : (thing : F) → made ≡ thing ∷ [] → mark thing ≡ now → then ≡ (now + 1) % 65536 → Counted mark now made then
 
+-- it keeps its 16 bits
+pub counter-in-16-bits : {F : Type 0} {mark : F → ℕ} {now then : ℕ} {made : List F} → now < 65536 → Counted mark now made then → then < 65536
+counter-in-16-bits small (none e stood) = omega (arith, stood, small)
+counter-in-16-bits small (one thing e shown moved) = omega (arith, moved)
+
+-- and moves on by as many as were made
+pub counter-moved : {F : Type 0} {mark : F → ℕ} {now then : ℕ} {made : List F} → now < 65536 → Counted mark now made then → then ≡ (now + length made) % 65536
+counter-moved small (none e stood) = omega (arith, stood, ap length e, small)
+counter-moved small (one thing e shown moved) = omega (arith, moved, ap length e)
+
 module _ {S C F : Type 0} (Keeps : S → C → Type 0) (after : C → S) (Possible : S → Type 0) (next : S → ℕ) (made : C → List F) (mark : F → ℕ)
     (in-16-bits : (state : S) → Possible state → next state < 65536)
     (stays : (state : S) (call : C) → Possible state → Keeps state call → Possible (after call))
     (once : (state : S) (call : C) → Possible state → Keeps state call → Counted mark (next state) (made call) (next (after call))) where
   abbrev Run : S → List (Step S C) → Type 0
-  Run = Runs (StepKeeps Keeps Possible) (stepLeaves after)
+  Run = StepRuns Keeps after Possible
 
   abbrev left : S → List (Step S C) → S
-  left = leaves (StepKeeps Keeps Possible) (stepLeaves after)
+  left = stepsLeave Keeps after Possible
 
   abbrev marks : List (Step S C) → List ℕ
   marks steps = each mark (gathered made steps)
@@ -78,37 +88,58 @@ module _ {S C F : Type 0} (Keeps : S → C → Type 0) (after : C → S) (Possib
   stands state [] possible run unreplaced = omega (arith, in-16-bits state possible)
   stands state (replaced who other ∷ rest) possible run unreplaced = absurd unreplaced
   stands state (called call ∷ rest) possible (kept, run) unreplaced =
-      go (once state call possible kept) (stands (after call) rest (stays state call possible kept) run unreplaced)
+      let moved = counter-moved (in-16-bits state possible) (once state call possible kept) in
+      let ih = stands (after call) rest (stays state call possible kept) run unreplaced in
+      let long : length (marks (called call ∷ rest)) ≡ length (made call) + length (marks rest) = length-marks (made call) (gathered made rest) in
+      omega (arith, ih, moved, long)
     where
-      go : Counted mark (next state) (made call) (next (after call)) → next (left (after call) rest) ≡ (next (after call) + length (marks rest)) % 65536
-          → next (left (after call) rest) ≡ (next state + length (marks (called call ∷ rest))) % 65536
-      go (none e stood) ih =
-          let same : marks (called call ∷ rest) ≡ marks rest = ap (λ (l : List F). each mark (l ++ gathered made rest)) e in
-          omega (arith, ih, stood, ap length same)
-      go (one thing e shown moved) ih =
-          let same : marks (called call ∷ rest) ≡ mark thing ∷ marks rest = ap (λ (l : List F). each mark (l ++ gathered made rest)) e in
-          omega (arith, ih, moved, ap length same)
+      length-marks : (now then : List F) → length (each mark (now ++ then)) ≡ length now + length (each mark then)
+      length-marks [] then = omega arith
+      length-marks (thing ∷ now) then = omega (arith, length-marks now then)
 
   -- what every step keeps
-  step-stays : (state : S) (step : Step S C) → Possible state → StepKeeps Keeps Possible state step → Possible (stepLeaves after step)
+  step-stays : (state : S) (step : Step S C) → Possible state → StepKeeps Keeps after Possible state step → Possible (stepLeaves after step)
   step-stays state (called call) possible kept = stays state call possible kept
   step-stays state (replaced who other) possible kept = kept
 
-  -- So in any stretch of a run in which the state isn't replaced, what is shown counts on from where the steps before it left the counter.
-  module _ (state : S) (earlier stretch later : List (Step S C)) (possible : Possible state) (run : Run state (earlier ++ stretch ++ later)) (unreplaced : Unreplaced stretch) where
+  -- So in any stretch of a run what is shown counts on from where the steps before it left the counter.
+  module _ (state : S) (earlier stretch later : List (Step S C)) (s : Stretch Keeps after Possible state earlier stretch later) where
     up-to-its-end : Run state (earlier ++ stretch)
-    up-to-its-end = runs-before (StepKeeps Keeps Possible) (stepLeaves after) state (earlier ++ stretch) later run
+    up-to-its-end = runs-before (StepKeeps Keeps after Possible) (stepLeaves after) state (earlier ++ stretch) later (s .run)
 
     its-run : Run (left state earlier) stretch
-    its-run = runs-behind (StepKeeps Keeps Possible) (stepLeaves after) state earlier stretch up-to-its-end
+    its-run = runs-behind (StepKeeps Keeps after Possible) (stepLeaves after) state earlier stretch up-to-its-end
 
     possible-there : Possible (left state earlier)
     possible-there =
-        holds-after (StepKeeps Keeps Possible) (stepLeaves after) Possible step-stays state earlier possible
-        (runs-before (StepKeeps Keeps Possible) (stepLeaves after) state earlier stretch up-to-its-end)
+        holds-after (StepKeeps Keeps after Possible) (stepLeaves after) Possible step-stays state earlier (s .possible)
+        (runs-before (StepKeeps Keeps after Possible) (stepLeaves after) state earlier stretch up-to-its-end)
 
     pub stretch-counts-on : CountsOn (next (left state earlier)) (marks stretch)
-    stretch-counts-on = counts-on (next (left state earlier)) (marks stretch) (numbered (left state earlier) stretch possible-there its-run unreplaced)
+    stretch-counts-on = counts-on (next (left state earlier)) (marks stretch) (numbered (left state earlier) stretch possible-there its-run (s .unreplaced))
 
-    pub stretch-leaves : next (left (left state earlier) stretch) ≡ (next (left state earlier) + length (marks stretch)) % 65536
-    stretch-leaves = stands (left state earlier) stretch possible-there its-run unreplaced
+    -- and the state behind it has the next number
+    pub stretch-leaves : next (left state (earlier ++ stretch)) ≡ (next (left state earlier) + length (marks stretch)) % 65536
+    stretch-leaves =
+        ap next (leaves-behind (StepKeeps Keeps after Possible) (stepLeaves after) state earlier stretch)
+        ∙ stands (left state earlier) stretch possible-there its-run (s .unreplaced)
+
+  -- a run in which the state isn't replaced is one stretch
+  pub whole-counts-on : (state : S) (steps : List (Step S C)) → Possible state → Run state steps → Unreplaced steps → CountsOn (next state) (marks steps)
+  whole-counts-on state steps possible run unreplaced =
+      stretch-counts-on state [] steps [] (record { possible = possible; run = rw append-nil run; unreplaced = unreplaced })
+
+  -- behind a change of state the count starts anew
+  pub counts-anew : (state other : S) (who : ℕ) (earlier stretch later : List (Step S C)) → Possible state
+      → Run state (earlier ++ replaced who other ∷ stretch ++ later) → Unreplaced stretch → CountsOn (next other) (marks stretch)
+  counts-anew state other who earlier stretch later possible run unreplaced =
+      subst (λ (x : S). CountsOn (next x) (marks stretch)) (leaves-behind (StepKeeps Keeps after Possible) (stepLeaves after) state earlier (replaced who other ∷ []))
+      (stretch-counts-on state (earlier ++ replaced who other ∷ []) stretch later
+      (record { possible = possible; run = rw (append-assoc earlier (replaced who other ∷ []) stretch) run; unreplaced = unreplaced }))
+
+  -- and of one guest among others, whatever these ask
+  pub counts-among-others : (who : C → ℕ) (host : ℕ → S) (steps : List (Step S C)) (guest : ℕ) → Possible (host guest) → StepServes Keeps after Possible who host steps
+      → Unreplaced (callsOf (stepOf who) guest steps) → CountsOn (next (host guest)) (marks (callsOf (stepOf who) guest steps))
+  counts-among-others who host steps guest possible run unreplaced =
+      whole-counts-on (host guest) (callsOf (stepOf who) guest steps) possible
+      (as-if-alone (StepKeeps Keeps after Possible) (stepLeaves after) (stepOf who) host steps guest run) unreplaced

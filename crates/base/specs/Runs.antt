@@ -46,11 +46,6 @@ pub data Step (S C : Type 0) : Type 0 where
   called : C → Step S C
   replaced : (who : ℕ) → S → Step S C
 
--- A step is kept: its call is, or the state that is put in place is a possible one.
-abbrev pub StepKeeps : {S C : Type 0} → (S → C → Type 0) → (Possible : S → Type 0) → S → Step S C → Type 0
-StepKeeps Keeps Possible state (called call) = Keeps state call
-StepKeeps Keeps Possible state (replaced who other) = Possible other
-
 -- the state that a step leaves
 abbrev pub stepLeaves : {S C : Type 0} → (C → S) → Step S C → S
 stepLeaves after (called call) = after call
@@ -72,3 +67,27 @@ abbrev pub gathered : {S C A : Type 0} → (C → List A) → List (Step S C) �
 gathered made [] = []
 gathered made (called call ∷ rest) = made call ++ gathered made rest
 gathered made (replaced who other ∷ rest) = gathered made rest
+
+module _ {S C : Type 0} (Keeps : S → C → Type 0) (after : C → S) (Possible : S → Type 0) where
+  -- a step is kept: its call is, or the state that is put in place is a possible one
+  abbrev pub StepKeeps : S → Step S C → Type 0
+  StepKeeps state (called call) = Keeps state call
+  StepKeeps state (replaced who other) = Possible other
+
+  -- steps one after the other from this state, each kept
+  abbrev pub StepRuns : S → List (Step S C) → Type 0
+  StepRuns = Runs StepKeeps (stepLeaves after)
+
+  -- the state that they leave
+  abbrev pub stepsLeave : S → List (Step S C) → S
+  stepsLeave = leaves StepKeeps (stepLeaves after)
+
+  -- on the states of many guests, in any order
+  abbrev pub StepServes : (who : C → ℕ) → (ℕ → S) → List (Step S C) → Type 0
+  StepServes who = Serves StepKeeps (stepLeaves after) (stepOf who)
+
+  -- A stretch of a run: steps in none of which the state is replaced, with those before and behind it.
+  pub record Stretch (state : S) (earlier stretch later : List (Step S C)) : Type 0 where
+    pub possible : Possible state
+    pub run : StepRuns state (earlier ++ stretch ++ later)
+    pub unreplaced : Unreplaced stretch

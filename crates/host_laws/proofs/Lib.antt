@@ -1,2 +1,3 @@
 pub mod AsCore
 pub mod Orders
+pub mod Ids

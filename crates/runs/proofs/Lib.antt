@@ -1,3 +1,4 @@
 pub mod Written
 pub mod Isolation
 pub mod Ids
+pub mod Promised

@@ -2,10 +2,10 @@
 -- that they carry, read off the buffers.
 use Prim.Native.Nat.{ℕ, _<_}
 use mathlib.Core.Bool.{Bool, false, _&&_, not, cond}
-use mathlib.Core.List.{List, [], _∷_, _++_}
+use mathlib.Core.List.{List, [], _∷_}
 use lib.Dec.{eqb}
 use Rattle.base.specs.Bytes.{u16At}
-use Rattle.base.specs.Runs.{Runs, leaves, Serves, each, Step, StepKeeps, stepLeaves, stepOf, Unreplaced, gathered}
+use Rattle.base.specs.Runs.{each, Step, gathered, StepRuns, stepsLeave, StepServes, Stretch}
 use Rattle.record.specs.Guest.{Sized}
 use Rattle.record.specs.declared.guest.Guest.{Guest}
 use Rattle.wire.specs.Rfc894.{typeOf}
@@ -19,15 +19,19 @@ pub record Typed (guest : Guest) : Type 0 where
 -- "for one record, over any sequence of guest frames and calls of the frame builders": each is answered as its contract promises, from the record that the one before left.
 -- "It holds so long as the host doesn't put an older or fresh record in its place": that is a step too (`replaced`), with any record.
 abbrev pub Run : Guest → List (Step Guest Call) → Type 0
-Run = Runs (StepKeeps Answered Typed) (stepLeaves leftBy)
+Run = StepRuns Answered leftBy Typed
 
 -- the record that they leave
 abbrev pub recordBehind : Guest → List (Step Guest Call) → Guest
-recordBehind = leaves (StepKeeps Answered Typed) (stepLeaves leftBy)
+recordBehind = stepsLeave Answered leftBy Typed
 
 -- the same on the records of many guests, in any order
 abbrev pub RunOfMany : (host : ℕ → Guest) → List (Step Guest Call) → Type 0
-RunOfMany = Serves (StepKeeps Answered Typed) (stepLeaves leftBy) (stepOf whose)
+RunOfMany = StepServes Answered leftBy Typed whose
+
+-- steps of a run in none of which the host puts another record in place, with those before and behind
+abbrev pub StretchOf : Guest → (earlier stretch later : List (Step Guest Call)) → Type 0
+StretchOf = Stretch Answered leftBy Typed
 
 -- An IPv4 frame is known by its type.
 abbrev pub ipv4In : (built : List ℕ) → List (List ℕ)
@@ -48,12 +52,6 @@ idIn frame = u16At frame 18
 -- the ids of the IPv4 frames built, in their order
 abbrev pub ids : List (Step Guest Call) → List ℕ
 ids steps = each idIn (ipv4Frames steps)
-
--- A stretch of a run: steps in none of which the host puts another record in place, with what came before and behind.
-pub record Stretch (guest : Guest) (earlier stretch later : List (Step Guest Call)) : Type 0 where
-  pub typed : Typed guest
-  pub run : Run guest (earlier ++ stretch ++ later)
-  pub unreplaced : Unreplaced stretch
 
 -- "Drops, handoffs, refusals and ARP replies count for nothing": how many IPv4 frames a call has built, by what was asked and the number of its
 -- answer. On 1 it is one, unless the guest's frame is ARP's; on every other number it is none.
