@@ -1,34 +1,34 @@
 -- A counter of 16 bits over any run of calls: if each call shows it and moves it on by 1, or does neither, then what is shown counts on, from
 -- wherever the counter was last put. By induction over the steps.
-use Prim.Native.Nat.{ℕ, zero, suc, _+_, _%_, _<_}
+use Prim.Native.Nat.{ℕ, zero, suc, _+_, _%_, _<_, _≤_}
 use mathlib.Core.Path.{_≡_, refl, ap, sym, subst, _∙_}
 use mathlib.Core.List.{List, [], _∷_, _++_, append-assoc, append-nil}
 use native.Mathlib.Omega.{arith}
 use lib.ListN.{length, getD, drop, length-take, length-drop}
 use lib.Seq.{getD-take, getD-drop}
 use Rattle.base.specs.Bytes.{part}
-use Rattle.base.specs.Counting.{AllDifferent, CountsOn}
+use Rattle.base.specs.Counting.{CountsOn}
 use Rattle.base.specs.Runs.{callsOf, each, Step, called, replaced, stepLeaves, stepOf, Unreplaced, gathered, StepKeeps, StepRuns, stepsLeave, StepServes, Stretch}
 use Rattle.base.proofs.Runs.{as-if-alone, holds-after, runs-before, runs-behind, leaves-behind}
 
 -- all that is said of numbers that count on follows from what each of them is
 module _ (start : ℕ) (numbers : List ℕ) (is : (k : ℕ) → k < length numbers → getD numbers k 0 ≡ (start + k) % 65536) where
-  in-a-row : (i : ℕ) → AllDifferent (part numbers i 65536)
-  in-a-row i j k less there same =
-      let long = length-take 65536 (drop i numbers) in
+  in-a-row : (size i j k : ℕ) → j < k → k < length (part numbers i size) → getD (part numbers i size) j 0 ≡ getD (part numbers i size) k 0 → size ≤ 65536 → ⊥
+  in-a-row size i j k less there same most =
+      let long = length-take size (drop i numbers) in
       let behind = length-drop i numbers in
-      let near : k < 65536 = omega (arith, long) in
-      let first : getD (part numbers i 65536) j 0 ≡ (start + (i + j)) % 65536 =
-      getD-take 65536 (drop i numbers) j 0 (omega arith) ∙ getD-drop i numbers j 0 ∙ is (i + j) (omega (arith, long, behind)) in
-      let second : getD (part numbers i 65536) k 0 ≡ (start + (i + k)) % 65536 =
-      getD-take 65536 (drop i numbers) k 0 near ∙ getD-drop i numbers k 0 ∙ is (i + k) (omega (arith, long, behind)) in
+      let near : k < size = omega (arith, long) in
+      let first : getD (part numbers i size) j 0 ≡ (start + (i + j)) % 65536 =
+      getD-take size (drop i numbers) j 0 (omega arith) ∙ getD-drop i numbers j 0 ∙ is (i + j) (omega (arith, long, behind)) in
+      let second : getD (part numbers i size) k 0 ≡ (start + (i + k)) % 65536 =
+      getD-take size (drop i numbers) k 0 near ∙ getD-drop i numbers k 0 ∙ is (i + k) (omega (arith, long, behind)) in
       omega (arith, first, second, same)
 
   pub counts-on : CountsOn start numbers
   counts-on =
       record {
         number = is;
-        different-in-a-row = in-a-row;
+        different-in-a-row = λ i j k less there same. in-a-row 65536 i j k less there same (omega arith);
         same-are-apart = λ i j less there same. omega (arith, is i (omega arith), is j there, same);
         apart-are-same = λ i j less there apart. omega (arith, is i (omega arith), is j there, apart);
       }

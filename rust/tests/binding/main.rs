@@ -4,6 +4,7 @@
 mod builders;
 mod checksum;
 mod frames;
+mod ids;
 mod layout;
 mod making;
 mod networks;
