@@ -121,7 +121,12 @@ uint32_t yavoledu_send(yavoledu_guest *guest, const uint8_t *frame, size_t frame
                        size_t values[2]);
 
 /* The builders answer 1, 5 or 6. A frame takes *id, which then grows by 1 and goes from 65,535 to 0; lend it the id of
- * the guest's record. It comes from the gateway's MAC, 52:54:00:00:00:01. On 5 and 6 only values changes. */
+ * the guest's record. It comes from the gateway's MAC, 52:54:00:00:00:01. On 5 and 6 only values changes.
+ *
+ * The IPv4 frames that yavoledu_send and the builders make of one record, one after the other, carry its id at the start,
+ * then that plus 1, plus 2 and so on, modulo 65,536: bytes 18 and 19 of each. Nothing else counts, ARP replies and
+ * refusals among it. So two of them with the same id are a multiple of 65,536 frames apart; until the host puts another
+ * record in the memory, a copy of an older one or one made anew: from there the count starts at that record's id. */
 
 /* An IPv4 frame around a payload of at most 65,515 bytes: 34 bytes and the payload. */
 uint32_t yavoledu_make_ip_frame(uint16_t *id, const uint8_t dst_mac[6], const uint8_t src_ip[4], const uint8_t dst_ip[4],

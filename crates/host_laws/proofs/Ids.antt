@@ -136,9 +136,9 @@ module _ (old : Guest) (mac gateway address mask : List ℕ) (lease : Lease) (nu
       go (made good told is) = subst (λ (g : Guest). CountsOn (g .id) (idsInC steps)) is (from-the-start stored steps typed run unreplaced)
       go (refused bad told is) = absurd (omega (arith, e, ap (λ (l : List ℕ). getD l 0 0) told))
 
-  pub refused-counts-on : number ≡ 9 → stored ≡ old
+  pub refused-is-as-before : number ≡ 9 → stored ≡ old
   unfolding paper
-  refused-counts-on e = go m
+  refused-is-as-before e = go m
     where
       go : MadeOver old mac gateway address mask lease number stored → stored ≡ old
       go (made good told is) = absurd (omega (arith, e, ap (λ (l : List ℕ). getD l 0 0) told))

@@ -4,8 +4,8 @@ use Prim.Native.Nat.{ℕ}
 use mathlib.Core.Path.{_≡_, refl}
 use mathlib.Core.List.{List, [], _∷_, _++_}
 use native.Mathlib.Omega.{arith}
-use lib.ListN.{length, drop, take, replicate}
-use Rattle.base.specs.Runs.{Step, called, replaced}
+use lib.ListN.{length, getD, drop, set, take, replicate}
+use Rattle.base.specs.Runs.{Step, called, replaced, gathered}
 use Rattle.arp_reply.specs.Reply.{replyTo}
 use Rattle.dhcp_message.specs.Message.{reply}
 use Rattle.dhcp_reply.specs.Reply.{dhcpFrameTo}
@@ -55,6 +55,16 @@ address = 192 ∷ 0 ∷ 2 ∷ 1 ∷ []
 abbrev ends : Endpoints
 ends = record { «dst_mac» = mac; «src_ip» = address; «src_port» = 80; «dst_ip» = address; «dst_port» = 49152 }
 
+-- P1's frame as a TCP segment, as a datagram for outside and as a DNS query, by its protocol, length field and port
+abbrev segmentOut : List ℕ
+segmentOut = set ping 23 6
+
+abbrev datagramOut : List ℕ
+datagramOut = set (set ping 23 17) 39 8
+
+abbrev dnsQuery : List ℕ
+dnsQuery = set (set datagramOut 36 0) 37 53
+
 abbrev deeds : List Deed
 deeds =
     asks (handling ping) 42  -- P1: a reply, 65,534
@@ -63,6 +73,9 @@ deeds =
     ∷ asks (makingIpFrame mac address address 17 (1 ∷ 2 ∷ 3 ∷ [])) 100  -- 65,535
     ∷ asks (makingIpFrame mac address address 17 (1 ∷ 2 ∷ 3 ∷ [])) 36  -- 5
     ∷ asks (handling (take 41 arpRequest)) 2048  -- a drop
+    ∷ asks (handling dnsQuery) 2048  -- 2
+    ∷ asks (handling datagramOut) 2048  -- 3
+    ∷ asks (handling segmentOut) 2048  -- 4
     ∷ asks (makingIpFrameInPlace mac address address 99 7) 41  -- 0
     ∷ asks (makingIpFrameInPlace mac address address 99 65516) 41  -- 6
     ∷ asks (handling (message (0x35 ∷ 0x01 ∷ 0x01 ∷ 0xff ∷ []))) 342  -- D1: an offer, 1
@@ -91,8 +104,14 @@ pub ids-of-the-course : ids (course (with 65534 0) deeds) ≡ 65534 ∷ 65535 �
 unfolding checksum total words sum fold header headerWith ipFrame datagram walk walkFrom reply echo echoWith replyTo dhcpFrameTo decision arpDecision ipDecision icmpDecision udpDecision dhcpDecision framing spending building outcomeOf outcome tcpFrame segment summedHeader segmentHeader options dataLimit covered pseudoHeader verdictOf
 ids-of-the-course = refl
 
+-- the numbers of the answers to its calls, in their order
+pub numbers-of-the-course : gathered (λ (call : Call). getD (paper (call .answer .verdict)) 0 8 ∷ []) (course (with 65534 0) deeds)
+    ≡ 1 ∷ 1 ∷ 5 ∷ 1 ∷ 5 ∷ 0 ∷ 2 ∷ 3 ∷ 4 ∷ 1 ∷ 6 ∷ 1 ∷ 7 ∷ 0 ∷ 1 ∷ 1 ∷ 1 ∷ 1 ∷ []
+unfolding checksum total words sum fold header headerWith ipFrame datagram walk walkFrom reply echo echoWith replyTo dhcpFrameTo decision arpDecision ipDecision icmpDecision udpDecision dhcpDecision framing spending building outcomeOf outcome tcpFrame segment summedHeader segmentHeader options dataLimit covered pseudoHeader verdictOf paper
+numbers-of-the-course = refl
+
 -- and the course is a run, so what is claimed of runs is claimed of it
 pub course-runs : Run (with 65534 0) (course (with 65534 0) deeds)
 unfolding checksum total words sum fold header headerWith ipFrame datagram walk walkFrom reply echo echoWith replyTo dhcpFrameTo decision arpDecision ipDecision icmpDecision udpDecision dhcpDecision framing spending building outcomeOf outcome tcpFrame segment summedHeader segmentHeader options dataLimit covered pseudoHeader verdictOf paper
 course-runs =
-    (answered _ _ 42 tt refl, (answered _ _ 2048 tt refl, (answered _ _ 41 tt refl, (answered _ _ 100 sizes refl, (answered _ _ 36 sizes refl, (answered _ _ 2048 tt refl, (answered _ _ 41 sizes refl, (answered _ _ 41 sizes refl, (answered _ _ 342 tt refl, (answered _ _ 342 tt refl, (answered _ _ 342 tt refl, (answered _ _ 62 sizes refl, (answered _ _ 1514 sizes refl, (possible, (answered _ _ 100 tt refl, (answered _ _ 100 tt refl, tt))))))))))))))))
+    (answered _ _ 42 tt refl, (answered _ _ 2048 tt refl, (answered _ _ 41 tt refl, (answered _ _ 100 sizes refl, (answered _ _ 36 sizes refl, (answered _ _ 2048 tt refl, (answered _ _ 2048 tt refl, (answered _ _ 2048 tt refl, (answered _ _ 2048 tt refl, (answered _ _ 41 sizes refl, (answered _ _ 41 sizes refl, (answered _ _ 342 tt refl, (answered _ _ 342 tt refl, (answered _ _ 342 tt refl, (answered _ _ 62 sizes refl, (answered _ _ 1514 sizes refl, (possible, (answered _ _ 100 tt refl, (answered _ _ 100 tt refl, tt)))))))))))))))))))
