@@ -1,7 +1,7 @@
 //! Document 02, 8/13: the ids of the IPv4 frames that are built from one record over a long run of calls. They are read off the
 //! buffers, bytes 18 and 19 of what stands there, and counted here by themselves.
 
-use yavoledu::{Endpoints, Guest, Refusal, Verdict, make_udp_payload};
+use yavoledu::{Endpoints, Guest, NetworkPlan, Refusal, Verdict, make_udp_payload};
 
 use crate::frames::*;
 
@@ -239,26 +239,27 @@ impl Draw {
         (self.0 >> 33) as usize % bound
     }
 
-    /// One of the calls; those that move much memory are rare.
-    fn call<'a>(&mut self, calls: &'a [Call]) -> &'a Call {
+    /// The place of one of the calls; those that move much memory are rare.
+    fn one_of(&mut self, calls: &[Call]) -> usize {
         loop {
-            let drawn = &calls[self.below(calls.len())];
-            if drawn.room < 65_549 || self.below(64) == 0 {
+            let drawn = self.below(calls.len());
+            if calls[drawn].room < 65_549 || self.below(64) == 0 {
                 return drawn;
             }
         }
     }
 }
 
-/// The ids of the next `frames` IPv4 frames that a run of drawn calls builds from this record, and how many calls it took.
-fn run(guest: &mut Guest, draw: &mut Draw, frames: usize) -> (Vec<u16>, usize) {
+/// The ids of the next `frames` IPv4 frames that a run of drawn calls builds from this record, and how often each call was made.
+fn run(guest: &mut Guest, draw: &mut Draw, frames: usize) -> (Vec<u16>, Vec<usize>) {
     let calls = calls();
     let mut buffer = pattern(65_550);
     let mut ids = Vec::new();
-    let mut made = 0;
+    let mut made = vec![0; calls.len()];
     while ids.len() < frames {
-        ids.extend(draw.call(&calls).make(guest, &mut buffer));
-        made += 1;
+        let drawn = draw.one_of(&calls);
+        ids.extend(calls[drawn].make(guest, &mut buffer));
+        made[drawn] += 1;
     }
     (ids, made)
 }
@@ -288,15 +289,21 @@ fn guest_with_id(id: u16) -> Guest {
     }
 }
 
-/// A run from this id, and what is left behind it.
-fn assert_counts_on(start: u16, seed: u64) {
-    let mut guest = guest_with_id(start);
+/// One that the library makes.
+fn new_record() -> Guest {
+    Guest::new(GUEST_MAC, &NetworkPlan::DOCUMENT_01).unwrap()
+}
+
+/// A run from this record, and what is left behind it.
+fn assert_counts_on(mut guest: Guest, seed: u64) {
+    let start = guest.id;
     let (ids, made) = run(&mut guest, &mut Draw(seed), FRAMES);
     assert_eq!(ids.len(), FRAMES);
     assert_eq!(first_wrong(start, &ids), None, "from {start}");
     assert_eq!(first_too_near(&ids), None, "from {start}");
-    // many a call built nothing, and the record has the next id
-    assert!(made > 2 * FRAMES, "{made} calls");
+    // many a call built nothing, each was made, and the record has the next id
+    assert!(made.iter().sum::<usize>() > 3 * FRAMES, "{made:?}");
+    assert!(made.iter().all(|times| *times > 100), "{made:?}");
     assert_eq!(
         usize::from(guest.id),
         (usize::from(start) + FRAMES) % 65_536
@@ -305,13 +312,15 @@ fn assert_counts_on(start: u16, seed: u64) {
 
 #[test]
 fn a_new_record_counts_from_1() {
-    assert_counts_on(1, 0x7a61_766f_6c65_6475);
+    let guest = new_record();
+    assert_eq!(guest.id, 1);
+    assert_counts_on(guest, 0x7a61_766f_6c65_6475);
 }
 
 #[test]
 fn a_run_counts_on_from_any_id() {
     for (start, seed) in [(0, 1), (65_535, 2), (0x80ff, 3)] {
-        assert_counts_on(start, seed);
+        assert_counts_on(guest_with_id(start), seed);
     }
 }
 
@@ -345,7 +354,7 @@ fn from_an_older_or_a_fresh_record_the_count_starts_anew() {
     let (again, _) = run(&mut guest, &mut draw, 70_000);
     assert_eq!(first_wrong(older.id, &again), None);
 
-    guest = Guest::new(GUEST_MAC, &yavoledu::NetworkPlan::DOCUMENT_01).unwrap();
+    guest = new_record();
     let (fresh, _) = run(&mut guest, &mut draw, 70_000);
     assert_eq!(first_wrong(1, &fresh), None);
 
@@ -364,7 +373,7 @@ fn two_guests_in_turn_count_by_themselves() {
     let mut ids = [vec![], vec![]];
     for _ in 0..500_000 {
         let who = draw.below(2);
-        let call = draw.call(&calls);
+        let call = &calls[draw.one_of(&calls)];
         ids[who].extend(call.make(&mut guests[who], &mut buffer));
     }
     for (ids, start) in ids.iter().zip([65_530, 7]) {
