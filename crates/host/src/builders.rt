@@ -3,12 +3,10 @@ ghost use lib.ListN.{length};
 ghost use mathlib.Core.Path.{_≡_};
 ghost use mathlib.Core.List.{_∷_};
 ghost use Rattle.datagrams.specs.Builders.{makeUdpPayload};
-ghost use Rattle.frames.specs.Builders.{makeIpFrame};
 ghost use Rattle.record.specs.Answer.{paper};
-ghost use Rattle.host.specs.Exported.{Built, Told};
+ghost use Rattle.host.specs.Exported.{MakesIpFrame, MakesTcpFrame, Told};
 ghost use Rattle.verdict_numbers.specs.Numbers.{padded};
 ghost use Rattle.sums.specs.Rfc1071.{checksum as Rfc1071·checksum};
-ghost use Rattle.tcp.specs.Builders.{makeTcpFrame};
 use datagrams::make_udp_payload;
 use frames::make_ip_frame;
 use record::Answer;
@@ -30,8 +28,8 @@ pub extern "C" fn yavoledu_make_ip_frame(
     out: &mut [u8],
     values: &mut [usize; 2],
 ) -> u32
-    ensures { λ r. ⌜ Built (now (id .entry))
-        (λ guest. makeIpFrame guest (now («dst_mac» .entry)) (now («src_ip» .entry)) (now («dst_ip» .entry)) proto (now (payload .entry)) (length (now (out .entry))))
+    ensures { λ r. ⌜ MakesIpFrame (now (id .entry))
+        (now («dst_mac» .entry)) (now («src_ip» .entry)) (now («dst_ip» .entry)) proto (now (payload .entry))
         (now (out .entry)) (now (out .exit)) r (now (values .exit)) (now (id .exit)) ⌝ }
 {
     let answer = make_ip_frame(of_id(*id), *dst_mac, *src_ip, *dst_ip, proto, payload, out);
@@ -73,10 +71,9 @@ pub extern "C" fn yavoledu_make_tcp_frame(
     out: &mut [u8],
     values: &mut [usize; 2],
 ) -> u32
-    ensures { λ r. ⌜ Built (now (id .entry))
-        (λ guest. makeTcpFrame guest
+    ensures { λ r. ⌜ MakesTcpFrame (now (id .entry))
         (record { «dst_mac» = now («dst_mac» .entry); «src_ip» = now («src_ip» .entry); «src_port» = «src_port»; «dst_ip» = now («dst_ip» .entry); «dst_port» = «dst_port» })
-        seq ack flags (now («data» .entry)) (length (now (out .entry))))
+        seq ack flags (now («data» .entry))
         (now (out .entry)) (now (out .exit)) r (now (values .exit)) (now (id .exit)) ⌝ }
 {
     let ends = Endpoints {

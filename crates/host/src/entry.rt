@@ -1,7 +1,5 @@
 // The entry for C.
-ghost use lib.ListN.{length};
-ghost use Rattle.host.specs.Exported.{Sent};
-ghost use Rattle.rules.specs.Rules.{outcome};
+ghost use Rattle.host.specs.Exported.{Sends};
 use lent_record::send;
 use record::Guest;
 use verdict_numbers::numbered;
@@ -14,8 +12,7 @@ pub extern "C" fn yavoledu_send(
     reply: &mut [u8],
     values: &mut [usize; 2],
 ) -> u32
-    ensures { λ r. ⌜ Sent
-        (outcome (now (guest .entry)) (now (frame .entry)) (length (now (reply .entry))))
+    ensures { λ r. ⌜ Sends (now (guest .entry)) (now (frame .entry))
         (now (reply .entry)) (now (reply .exit)) r (now (values .exit)) (now (guest .exit)) ⌝ }
 {
     let verdict = send(guest, frame, reply);

@@ -5,16 +5,13 @@ use mathlib.Core.Bool.{cond}
 use mathlib.Core.Path.{_≡_}
 use mathlib.Core.List.{List, []}
 use lib.Dec.{eqb}
-use lib.ListN.{length, take, getD}
+use lib.ListN.{take, getD}
 use Rattle.base.specs.Runs.{each, Step, gathered, StepRuns, stepsLeave, StepServes, Stretch}
-use Rattle.frames.specs.Builders.{makeIpFrame}
-use Rattle.host.specs.Exported.{Built, Sent}
+use Rattle.host.specs.Exported.{Sends, MakesIpFrame, MakesTcpFrame}
 use Rattle.record.specs.Guest.{withId}
 use Rattle.record.specs.declared.guest.Guest.{Guest}
-use Rattle.rules.specs.Rules.{outcome}
 use Rattle.runs.specs.Calls.{Asked, handling, makingIpFrame, makingIpFrameInPlace, makingTcpFrame, SizedArrays}
 use Rattle.runs.specs.Ids.{Typed, ipv4In, idIn}
-use Rattle.tcp.specs.Builders.{makeTcpFrame}
 
 -- A call that was made: whose record it was on, what was asked, the buffer before and afterwards, the number and the two values told, and the record that stands in memory
 -- afterwards.
@@ -27,17 +24,15 @@ pub record CallInC : Type 0 where
   pub values : List ℕ
   pub stored : Guest
 
--- What the exported function promises of what was asked. A builder is lent the record's id and nothing else of it. None of them builds in place.
+-- What the exported function promises of what was asked, in its contract's own words. A builder is lent the record's id, and the rest of the record stays. None of them builds
+-- in place.
 abbrev pub PromisedInC : Asked → Guest → CallInC → Type 0
-PromisedInC (handling frame) guest call =
-    Sent (outcome guest frame (length (call .before))) (call .before) (call .after) (call .number) (call .values) (call .stored)
+PromisedInC (handling frame) guest call = Sends guest frame (call .before) (call .after) (call .number) (call .values) (call .stored)
 PromisedInC (makingIpFrame mac source target protocol payload) guest call =
-    Built (guest .id) (λ (g : Guest). makeIpFrame g mac source target protocol payload (length (call .before)))
-    (call .before) (call .after) (call .number) (call .values) (call .stored .id)
+    MakesIpFrame (guest .id) mac source target protocol payload (call .before) (call .after) (call .number) (call .values) (call .stored .id)
     × (call .stored ≡ withId (call .stored .id) guest)
 PromisedInC (makingTcpFrame ends seq ack flags body) guest call =
-    Built (guest .id) (λ (g : Guest). makeTcpFrame g ends seq ack flags body (length (call .before)))
-    (call .before) (call .after) (call .number) (call .values) (call .stored .id)
+    MakesTcpFrame (guest .id) ends seq ack flags body (call .before) (call .after) (call .number) (call .values) (call .stored .id)
     × (call .stored ≡ withId (call .stored .id) guest)
 PromisedInC (makingIpFrameInPlace mac source target protocol len) guest call = ⊥
 
