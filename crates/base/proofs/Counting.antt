@@ -1,15 +1,15 @@
 -- A counter of 16 bits over any run of calls: if each call shows it and moves it on by 1, or does neither, then what is shown counts on, from
 -- wherever the counter was last put. By induction over the steps.
 use Prim.Native.Nat.{ℕ, zero, suc, _+_, _%_, _<_, _≤_}
-use mathlib.Core.Path.{_≡_, refl, ap, sym, subst, _∙_}
+use mathlib.Core.Path.{_≡_, ap, subst, _∙_}
 use mathlib.Core.List.{List, [], _∷_, _++_, append-assoc, append-nil}
 use native.Mathlib.Omega.{arith}
 use lib.ListN.{length, getD, drop, length-take, length-drop}
 use lib.Seq.{getD-take, getD-drop}
 use Rattle.base.specs.Bytes.{part}
 use Rattle.base.specs.Counting.{CountsOn}
-use Rattle.base.specs.Runs.{callsOf, each, Step, called, replaced, stepLeaves, stepOf, Unreplaced, gathered, StepKeeps, StepRuns, stepsLeave, StepServes, Stretch}
-use Rattle.base.proofs.Runs.{as-if-alone, holds-after, runs-before, runs-behind, leaves-behind}
+use Rattle.base.specs.Runs.{each, Step, called, replaced, stepLeaves, Unreplaced, gathered, StepKeeps, StepRuns, stepsLeave, Stretch}
+use Rattle.base.proofs.Runs.{holds-after, runs-before, runs-behind, leaves-behind}
 
 -- all that is said of numbers that count on follows from what each of them is
 module _ (start : ℕ) (numbers : List ℕ) (is : (k : ℕ) → k < length numbers → getD numbers k 0 ≡ (start + k) % 65536) where
@@ -51,7 +51,7 @@ counter-moved small (one thing e shown moved) = omega (arith, moved, ap length e
 module _ {S C F : Type 0} (Keeps : S → C → Type 0) (after : C → S) (Possible : S → Type 0) (next : S → ℕ) (made : C → List F) (mark : F → ℕ)
     (in-16-bits : (state : S) → Possible state → next state < 65536)
     (stays : (state : S) (call : C) → Possible state → Keeps state call → Possible (after call))
-    (once : (state : S) (call : C) → Possible state → Keeps state call → Counted mark (next state) (made call) (next (after call))) where
+    (counts : (state : S) (call : C) → Possible state → Keeps state call → Counted mark (next state) (made call) (next (after call))) where
   abbrev Run : S → List (Step S C) → Type 0
   Run = StepRuns Keeps after Possible
 
@@ -67,7 +67,7 @@ module _ {S C F : Type 0} (Keeps : S → C → Type 0) (after : C → S) (Possib
   numbered state [] possible run unreplaced k there = absurd (omega arith)
   numbered state (replaced who other ∷ rest) possible run unreplaced k there = absurd unreplaced
   numbered state (called call ∷ rest) possible (kept, run) unreplaced k there =
-      go (once state call possible kept) (numbered (after call) rest (stays state call possible kept) run unreplaced) k there
+      go (counts state call possible kept) (numbered (after call) rest (stays state call possible kept) run unreplaced) k there
     where
       go : Counted mark (next state) (made call) (next (after call))
           → ((k : ℕ) → k < length (marks rest) → getD (marks rest) k 0 ≡ (next (after call) + k) % 65536)
@@ -88,7 +88,7 @@ module _ {S C F : Type 0} (Keeps : S → C → Type 0) (after : C → S) (Possib
   stands state [] possible run unreplaced = omega (arith, in-16-bits state possible)
   stands state (replaced who other ∷ rest) possible run unreplaced = absurd unreplaced
   stands state (called call ∷ rest) possible (kept, run) unreplaced =
-      let moved = counter-moved (in-16-bits state possible) (once state call possible kept) in
+      let moved = counter-moved (in-16-bits state possible) (counts state call possible kept) in
       let ih = stands (after call) rest (stays state call possible kept) run unreplaced in
       let long : length (marks (called call ∷ rest)) ≡ length (made call) + length (marks rest) = length-marks (made call) (gathered made rest) in
       omega (arith, ih, moved, long)
@@ -136,10 +136,3 @@ module _ {S C F : Type 0} (Keeps : S → C → Type 0) (after : C → S) (Possib
       subst (λ (x : S). CountsOn (next x) (marks stretch)) (leaves-behind (StepKeeps Keeps after Possible) (stepLeaves after) state earlier (replaced who other ∷ []))
       (stretch-counts-on state (earlier ++ replaced who other ∷ []) stretch later
       (record { possible = possible; run = rw (append-assoc earlier (replaced who other ∷ []) stretch) run; unreplaced = unreplaced }))
-
-  -- and of one guest among others, whatever these ask
-  pub counts-among-others : (who : C → ℕ) (host : ℕ → S) (steps : List (Step S C)) (guest : ℕ) → Possible (host guest) → StepServes Keeps after Possible who host steps
-      → Unreplaced (callsOf (stepOf who) guest steps) → CountsOn (next (host guest)) (marks (callsOf (stepOf who) guest steps))
-  counts-among-others who host steps guest possible run unreplaced =
-      whole-counts-on (host guest) (callsOf (stepOf who) guest steps) possible
-      (as-if-alone (StepKeeps Keeps after Possible) (stepLeaves after) (stepOf who) host steps guest run) unreplaced

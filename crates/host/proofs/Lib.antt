@@ -4,3 +4,4 @@ pub mod Reassembling
 pub mod Room
 pub mod Stores
 pub mod Telling
+pub mod Promised

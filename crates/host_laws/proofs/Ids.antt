@@ -1,5 +1,5 @@
 -- Document 02, 8/13, for what a host in C links: what an exported call tells of a frame that it built is what the core's promise has of it, so the same law of a counter holds.
-use Prim.Native.Nat.{ℕ, _+_, _%_}
+use Prim.Native.Nat.{ℕ, _+_, _%_, _≤_, _<_}
 use mathlib.Core.Bool.{Bool, cond}
 use mathlib.Core.Path.{_≡_, refl, ap, sym, subst, _∙_}
 use mathlib.Core.List.{List, [], _∷_, _++_}
@@ -7,9 +7,11 @@ use native.Mathlib.Omega.{arith}
 use borrow.Author.Tests.{eq-eqb, ne-eqb}
 use lib.ListN.{length, take, drop, getD}
 use lib.Seq.{take-at}
-use Rattle.base.proofs.Counting.{Counted, counter-in-16-bits, counter-moved, stretch-counts-on, stretch-leaves, whole-counts-on, counts-anew, counts-among-others}
+use Rattle.base.proofs.Counting.{Counted, counter-in-16-bits, counter-moved, stretch-counts-on, stretch-leaves, whole-counts-on, counts-anew}
+use Rattle.base.proofs.Runs.{as-if-alone}
 use Rattle.base.specs.Counting.{CountsOn}
-use Rattle.base.specs.Runs.{callsOf, Step, replaced, stepOf, Unreplaced}
+use Rattle.base.specs.Runs.{callsOf, Step, replaced, stepLeaves, stepOf, Unreplaced, StepKeeps}
+use Rattle.host.proofs.OneAnswer.{yavoledu-send-settled}
 use Rattle.host.specs.Exported.{Told}
 use Rattle.making.specs.Making.{paper}
 use Rattle.making.specs.Over.{MadeOver, made, refused}
@@ -18,13 +20,12 @@ use Rattle.record.proofs.Changes.{still-sized}
 use Rattle.record.specs.Answer.{Outcome}
 use Rattle.record.specs.Guest.{Settled}
 use Rattle.record.specs.declared.guest.Guest.{Guest}
-use Rattle.rules.proofs.Settled.{outcome-settled}
-use Rattle.runs.proofs.Ids.{counted-once, as-many}
-use Rattle.runs.proofs.Written.{Comes, nothing, ipv4, arp, comes}
-use Rattle.runs.specs.Calls.{Asked, handling, makingIpFrame, makingIpFrameInPlace, makingTcpFrame, promised}
-use Rattle.runs.specs.Ids.{Typed, idIn, counted}
+use Rattle.runs.proofs.Ids.{counted-once, as-many, with-header}
+use Rattle.runs.proofs.Written.{Comes, comes, built-as-promised}
+use Rattle.runs.specs.Calls.{Asked, handling, makingIpFrame, makingIpFrameInPlace, makingTcpFrame, promised, bytesBuilt}
+use Rattle.runs.specs.Ids.{Typed, idIn, framesBuilt}
 use Rattle.verdict_numbers.specs.Numbers.{padded}
-use Rattle.host_laws.specs.OnRecord.{CallInC, PromisedInC, AnsweredInC, leftInC, whoseInC, RunInC, recordInC, RunOfManyInC, StretchInC, sentInC, ipv4BuiltInC, idsInC}
+use Rattle.host_laws.specs.OnRecord.{CallInC, PromisedInC, AnsweredInC, leftInC, whoseInC, RunInC, recordBehindInC, RunOfManyInC, StretchInC, ipv4BuiltInC, idsInC}
 
 -- what it tells of the buffer is what is to come
 told-it : (asked : Asked) (guest : Guest) (call : CallInC) → PromisedInC asked guest call → Told (promised guest asked (call .before) .writing) (call .before) (call .after) (call .number) (call .values)
@@ -42,39 +43,25 @@ id-left (makingIpFrameInPlace mac source target protocol len) guest call p = abs
 
 -- MAC and network stay
 settled : (asked : Asked) (guest : Guest) (call : CallInC) → PromisedInC asked guest call → Settled guest (call .stored)
-settled (handling frame) guest call p = subst (Settled guest) (sym (p .guest)) (outcome-settled guest frame (length (call .before)))
+settled (handling frame) guest call p = yavoledu-send-settled guest frame (call .before) (call .after) (call .number) (call .values) (call .stored) p
 settled (makingIpFrame mac source target protocol payload) guest call p = subst (Settled guest) (sym (p .1)) (record { mac-kept = refl; network-kept = refl })
 settled (makingTcpFrame ends seq ack flags body) guest call p = subst (Settled guest) (sym (p .1)) (record { mac-kept = refl; network-kept = refl })
 settled (makingIpFrameInPlace mac source target protocol len) guest call p = absurd p
 
--- the number told is the first that is to come
+-- the first two numbers told are the first two that are to come
 first-told : (numbers : List ℕ) → getD (padded numbers) 0 0 ≡ getD numbers 0 0
 unfolding padded
 first-told [] = refl
 first-told (n ∷ rest) = refl
 
+second-told : (numbers : List ℕ) → getD (padded numbers) 1 0 ≡ getD numbers 1 0
+unfolding padded
+second-told [] = refl
+second-told (n ∷ []) = refl
+second-told (n ∷ m ∷ rest) = refl
+
 number-is : (o : Outcome) (call : CallInC) → Told (o .writing) (call .before) (call .after) (call .number) (call .values) → call .number ≡ getD (o .writing .numbers) 0 0
 number-is o call t = ap (λ (l : List ℕ). getD l 0 0) (t .numbers) ∙ first-told (o .writing .numbers)
-
--- the bytes built are those that are to come
-built-as-promised : (asked : Asked) (id : ℕ) (o : Outcome) (call : CallInC) → Comes asked id o → Told (o .writing) (call .before) (call .after) (call .number) (call .values)
-    → sentInC call ≡ o .writing .image
-unfolding padded
-built-as-promised asked id o call c t = go c
-  where
-    on-1 : o .writing .numbers ≡ 1 ∷ length (o .writing .image) ∷ [] → sentInC call ≡ o .writing .image
-    on-1 e =
-        let all : call .number ∷ call .values ≡ 1 ∷ length (o .writing .image) ∷ 0 ∷ [] = t .numbers ∙ ap padded e in
-        let n : getD (call .values) 0 0 ≡ length (o .writing .image) = ap (λ (l : List ℕ). getD l 1 0) all in
-        ap (λ (t : Bool). cond t (take (getD (call .values) 0 0) (call .after)) []) (eq-eqb (call .number) 1 (ap (λ (l : List ℕ). getD l 0 0) all))
-        ∙ ap (take (getD (call .values) 0 0)) (t .bytes)
-        ∙ take-at (o .writing .image) (drop (length (o .writing .image)) (call .before)) (getD (call .values) 0 0) (sym n)
-
-    go : Comes asked id o → sentInC call ≡ o .writing .image
-    go (nothing other empty kept) =
-        ap (λ (t : Bool). cond t (take (getD (call .values) 0 0) (call .after)) []) (ne-eqb (call .number) 1 (λ e. other (sym (number-is o call t) ∙ e))) ∙ sym empty
-    go (ipv4 e no-arp type carried moved) = on-1 e
-    go (arp e yes-arp type kept) = on-1 e
 
 module _ (guest : Guest) (call : CallInC) (typed : Typed guest) (k : AnsweredInC guest call) where
   abbrev to-come : Outcome
@@ -86,44 +73,54 @@ module _ (guest : Guest) (call : CallInC) (typed : Typed guest) (k : AnsweredInC
   told-of-it : Told (to-come .writing) (call .before) (call .after) (call .number) (call .values)
   told-of-it = told-it (call .asked) guest call (k .promised)
 
-  built-of-it : sentInC call ≡ to-come .writing .image
-  built-of-it = built-as-promised (call .asked) (guest .id) to-come call comes-of-it told-of-it
+  built-of-it : bytesBuilt (call .number ∷ call .values) (call .after) ≡ to-come .writing .image
+  built-of-it =
+      built-as-promised (call .asked) (guest .id) to-come (call .number ∷ call .values) (call .before) (call .after) comes-of-it (number-is to-come call told-of-it)
+      (ap (λ (l : List ℕ). getD l 1 0) (told-of-it .numbers) ∙ second-told (to-come .writing .numbers)) (told-of-it .bytes)
 
-  once : Counted idIn (guest .id) (ipv4BuiltInC call) (leftInC call .id)
-  once = rw (built-of-it, id-left (call .asked) guest call (k .promised)) (counted-once (call .asked) (guest .id) to-come comes-of-it)
+  counts : Counted idIn (guest .id) (ipv4BuiltInC call) (leftInC call .id)
+  counts = rw (built-of-it, id-left (call .asked) guest call (k .promised)) (counted-once (call .asked) (guest .id) to-come comes-of-it)
 
   stays : Typed (leftInC call)
-  stays = record { sized = still-sized (settled (call .asked) guest call (k .promised)) (typed .sized); in-16-bits = counter-in-16-bits (typed .in-16-bits) once }
+  stays = record { sized = still-sized (settled (call .asked) guest call (k .promised)) (typed .sized); in-16-bits = counter-in-16-bits (typed .in-16-bits) counts }
 
   -- "Drops, handoffs, refusals and ARP replies count for nothing": as many frames as the number told says
-  pub as-many-as-told : length (ipv4BuiltInC call) ≡ counted (call .asked) (call .number)
+  pub as-many-as-told : length (ipv4BuiltInC call) ≡ framesBuilt (call .asked) (call .number)
   as-many-as-told = rw (built-of-it, number-is to-come call told-of-it) (as-many (call .asked) (guest .id) to-come comes-of-it)
 
+  -- each of them with its whole header
+  pub built-with-header : (n : ℕ) → n < length (ipv4BuiltInC call) → 34 ≤ length (getD (ipv4BuiltInC call) n [])
+  built-with-header = rw built-of-it (with-header (call .asked) (guest .id) to-come comes-of-it)
+
   pub moved-on-by-as-many : leftInC call .id ≡ (guest .id + length (ipv4BuiltInC call)) % 65536
-  moved-on-by-as-many = counter-moved (typed .in-16-bits) once
+  moved-on-by-as-many = counter-moved (typed .in-16-bits) counts
 
 -- The ids of the frames that a stretch of a run builds count on from the record that the steps before it left in memory,
-pub ids-count-on : (guest : Guest) (earlier stretch later : List (Step Guest CallInC)) → StretchInC guest earlier stretch later → CountsOn (recordInC guest earlier .id) (idsInC stretch)
-ids-count-on = stretch-counts-on AnsweredInC leftInC Typed (λ (g : Guest). g .id) ipv4BuiltInC idIn (λ g t. t .in-16-bits) stays once
+pub ids-count-on : (guest : Guest) (earlier stretch later : List (Step Guest CallInC)) → StretchInC guest earlier stretch later → CountsOn (recordBehindInC guest earlier .id) (idsInC stretch)
+ids-count-on = stretch-counts-on AnsweredInC leftInC Typed (λ (g : Guest). g .id) ipv4BuiltInC idIn (λ g t. t .in-16-bits) stays counts
 
 -- and the record behind it has the next one.
 pub next-id-left : (guest : Guest) (earlier stretch later : List (Step Guest CallInC)) → StretchInC guest earlier stretch later
-    → recordInC guest (earlier ++ stretch) .id ≡ (recordInC guest earlier .id + length (idsInC stretch)) % 65536
-next-id-left = stretch-leaves AnsweredInC leftInC Typed (λ (g : Guest). g .id) ipv4BuiltInC idIn (λ g t. t .in-16-bits) stays once
+    → recordBehindInC guest (earlier ++ stretch) .id ≡ (recordBehindInC guest earlier .id + length (idsInC stretch)) % 65536
+next-id-left = stretch-leaves AnsweredInC leftInC Typed (λ (g : Guest). g .id) ipv4BuiltInC idIn (λ g t. t .in-16-bits) stays counts
 
 -- "the IPv4 frame number k built from it, counted from 0, carries the starting id plus k, modulo 65,536, and any 65,536 such frames in a row carry different ids"
 pub from-the-start : (guest : Guest) (steps : List (Step Guest CallInC)) → Typed guest → RunInC guest steps → Unreplaced steps → CountsOn (guest .id) (idsInC steps)
-from-the-start = whole-counts-on AnsweredInC leftInC Typed (λ (g : Guest). g .id) ipv4BuiltInC idIn (λ g t. t .in-16-bits) stays once
+from-the-start = whole-counts-on AnsweredInC leftInC Typed (λ (g : Guest). g .id) ipv4BuiltInC idIn (λ g t. t .in-16-bits) stays counts
 
 -- "so long as the host doesn't put an older or fresh record in its place; from such a moment the count starts anew"
 pub anew : (guest other : Guest) (who : ℕ) (earlier stretch later : List (Step Guest CallInC)) → Typed guest
     → RunInC guest (earlier ++ replaced who other ∷ stretch ++ later) → Unreplaced stretch → CountsOn (other .id) (idsInC stretch)
-anew = counts-anew AnsweredInC leftInC Typed (λ (g : Guest). g .id) ipv4BuiltInC idIn (λ g t. t .in-16-bits) stays once
+anew = counts-anew AnsweredInC leftInC Typed (λ (g : Guest). g .id) ipv4BuiltInC idIn (λ g t. t .in-16-bits) stays counts
 
--- A host of many guests: the frames built from one guest's record count by themselves, whatever the others ask, in whatever order.
+-- A host of many guests: the steps on one guest's record are a run of their own, whatever is asked for the others, in whatever order. So all that is said above is said of each guest.
+pub alone-in-a-run : (host : ℕ → Guest) (steps : List (Step Guest CallInC)) (who : ℕ) → RunOfManyInC host steps → RunInC (host who) (callsOf (stepOf whoseInC) who steps)
+alone-in-a-run = as-if-alone (StepKeeps AnsweredInC leftInC Typed) (stepLeaves leftInC) (stepOf whoseInC)
+
+-- as that its frames count by themselves
 pub among-others : (host : ℕ → Guest) (steps : List (Step Guest CallInC)) (who : ℕ) → Typed (host who) → RunOfManyInC host steps
     → Unreplaced (callsOf (stepOf whoseInC) who steps) → CountsOn (host who .id) (idsInC (callsOf (stepOf whoseInC) who steps))
-among-others = counts-among-others AnsweredInC leftInC Typed (λ (g : Guest). g .id) ipv4BuiltInC idIn (λ g t. t .in-16-bits) stays once whoseInC
+among-others host steps who typed run = from-the-start (host who) (callsOf (stepOf whoseInC) who steps) typed (alone-in-a-run host steps who run)
 
 -- A record that `yavoledu_make_guest` makes is such a fresh one: where it tells 24, the frames built from then on count from 1; where it tells 9, the record is the one that stood
 -- there, and its count goes on.

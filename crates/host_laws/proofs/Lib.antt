@@ -1,3 +1,4 @@
 pub mod AsCore
 pub mod Orders
 pub mod Ids
+pub mod There

@@ -1,16 +1,13 @@
 -- The calls on a guest's record as a host in C makes them, one after the other on the same memory: `yavoledu_send`, which is lent the record, and the exported builders, which are
 -- lent its id. Document 02, 8/13, in a C host's own terms.
 use Prim.Native.Nat.{ℕ}
-use mathlib.Core.Bool.{cond}
 use mathlib.Core.Path.{_≡_}
-use mathlib.Core.List.{List, []}
-use lib.Dec.{eqb}
-use lib.ListN.{take, getD}
+use mathlib.Core.List.{List, _∷_}
 use Rattle.base.specs.Runs.{each, Step, gathered, StepRuns, stepsLeave, StepServes, Stretch}
 use Rattle.host.specs.Exported.{Sends, MakesIpFrame, MakesTcpFrame}
 use Rattle.record.specs.Guest.{withId}
 use Rattle.record.specs.declared.guest.Guest.{Guest}
-use Rattle.runs.specs.Calls.{Asked, handling, makingIpFrame, makingIpFrameInPlace, makingTcpFrame, SizedArrays}
+use Rattle.runs.specs.Calls.{Asked, handling, makingIpFrame, makingIpFrameInPlace, makingTcpFrame, SizedArrays, bytesBuilt}
 use Rattle.runs.specs.Ids.{Typed, ipv4In, idIn}
 
 -- A call that was made: whose record it was on, what was asked, the buffer before and afterwards, the number and the two values told, and the record that stands in memory
@@ -54,8 +51,8 @@ abbrev pub RunInC : Guest → List (Step Guest CallInC) → Type 0
 RunInC = StepRuns AnsweredInC leftInC Typed
 
 -- the record that they leave
-abbrev pub recordInC : Guest → List (Step Guest CallInC) → Guest
-recordInC = stepsLeave AnsweredInC leftInC Typed
+abbrev pub recordBehindInC : Guest → List (Step Guest CallInC) → Guest
+recordBehindInC = stepsLeave AnsweredInC leftInC Typed
 
 -- on the records of many guests, in any order
 abbrev pub RunOfManyInC : (host : ℕ → Guest) → List (Step Guest CallInC) → Type 0
@@ -65,13 +62,9 @@ RunOfManyInC = StepServes AnsweredInC leftInC Typed whoseInC
 abbrev pub StretchInC : Guest → (earlier stretch later : List (Step Guest CallInC)) → Type 0
 StretchInC = Stretch AnsweredInC leftInC Typed
 
--- The bytes that a call built: where it tells 1, as many of the buffer's first bytes as its first value says.
-abbrev pub sentInC : CallInC → List ℕ
-sentInC call = cond (eqb (call .number) 1) (take (getD (call .values) 0 0) (call .after)) []
-
 -- the IPv4 frame among them, or none
 abbrev pub ipv4BuiltInC : CallInC → List (List ℕ)
-ipv4BuiltInC call = ipv4In (sentInC call)
+ipv4BuiltInC call = ipv4In (bytesBuilt (call .number ∷ call .values) (call .after))
 
 -- the ids of the IPv4 frames built, in their order: bytes 18 and 19 of each
 abbrev pub idsInC : List (Step Guest CallInC) → List ℕ

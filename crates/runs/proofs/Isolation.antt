@@ -15,8 +15,8 @@ use Rattle.record.specs.declared.guest.Guest.{Guest}
 use Rattle.rules.proofs.Settled.{outcome-settled}
 use Rattle.rules.specs.Rules.{outcome}
 use Rattle.tcp.specs.Builders.{makeTcpFrame}
-use Rattle.runs.proofs.Written.{comes, sent-as-promised}
-use Rattle.runs.specs.Calls.{Asked, handling, makingIpFrame, makingIpFrameInPlace, makingTcpFrame, promised, Call, Answered, leftBy, whose, Served, recordsAfter, ServedAlone, recordAfter, readBy, Question, question, sent, got}
+use Rattle.runs.proofs.Written.{comes, built-of-it}
+use Rattle.runs.specs.Calls.{Asked, handling, makingIpFrame, makingIpFrameInPlace, makingTcpFrame, promised, Call, Answered, leftBy, whose, Served, recordsAfter, ServedAlone, recordAfter, readBy, Question, question, got}
 
 -- whatever is asked, MAC and network are as they were
 promised-settled : (guest : Guest) (asked : Asked) (before : List ℕ) → Settled guest (promised guest asked before .guest)
@@ -48,9 +48,9 @@ once guest c o sized s t e =
     let v = paper-one-to-one (c .answer .verdict) (o .answer .verdict) (s .meets .wrote .numbers ∙ ap (λ (x : Outcome). x .writing .numbers) same ∙ sym (t .meets .wrote .numbers)) in
     let g = s .meets .guest ∙ ap (λ (x : Outcome). x .guest) same ∙ sym (t .meets .guest) in
     let built =
-    sent-as-promised (c .asked) (guest .id) _ (c .before) (c .after) (c .answer) (comes guest (c .asked) (c .before) sized (s .sized)) (s .meets)
+    built-of-it (c .asked) (guest .id) _ (c .before) (c .after) (c .answer) (comes guest (c .asked) (c .before) sized (s .sized)) (s .meets)
     ∙ ap (λ (x : Outcome). x .writing .image) same
-    ∙ sym (sent-as-promised (o .asked) (guest .id) _ (o .before) (o .after) (o .answer) (comes guest (o .asked) (o .before) sized (t .sized)) (t .meets)) in (
+    ∙ sym (built-of-it (o .asked) (guest .id) _ (o .before) (o .after) (o .answer) (comes guest (o .asked) (o .before) sized (t .sized)) (t .meets)) in (
       λ i. record { answer = record { verdict = v i; guest = g i }; built = built i },
       g,
       still-sized (settled guest c s) sized,

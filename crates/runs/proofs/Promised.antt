@@ -17,7 +17,7 @@ use Rattle.slirp.proofs.handle.Reads as handle-reads
 use Rattle.tcp.proofs.make_tcp_frame as tcp-frame
 use Rattle.tcp.proofs.make_tcp_frame.Kinds as tcp-frame-kinds
 use Rattle.tcp.proofs.make_tcp_frame.Reads as tcp-frame-reads
-use Rattle.runs.specs.Calls.{handling, makingIpFrame, makingIpFrameInPlace, makingTcpFrame, Ends, Answered}
+use Rattle.runs.specs.Calls.{handling, makingIpFrame, makingIpFrameInPlace, makingTcpFrame, SizedEnds, Answered}
 
 pub handle-answers : (who : ℕ) (κs : Lfts 2) (a : ArgsD the-handle.signature κs) (r : ResD the-handle.signature κs) (s : AtExit (endedOf 2 handle-kinds.ps handle-kinds.r) κs)
     → handle-reads.Post κs a r s
@@ -25,7 +25,7 @@ pub handle-answers : (who : ℕ) (κs : Lfts 2) (a : ArgsD the-handle.signature 
 handle-answers who κs a r s promised = record { sized = tt; meets = promised }
 
 pub make-ip-frame-answers : (who : ℕ) (κs : Lfts 2) (a : ArgsD ip-frame.signature κs) (r : ResD ip-frame.signature κs) (s : AtExit (endedOf 2 ip-frame-kinds.ps ip-frame-kinds.r) κs)
-    → Ends (a .1 .0) (a .1 .1 .0) (a .1 .1 .1 .0) → ip-frame-reads.Post κs a r s
+    → SizedEnds (a .1 .0) (a .1 .1 .0) (a .1 .1 .1 .0) → ip-frame-reads.Post κs a r s
     → Answered (a .0)
     (record {
       who = who;
@@ -34,10 +34,10 @@ pub make-ip-frame-answers : (who : ℕ) (κs : Lfts 2) (a : ArgsD ip-frame.signa
       answer = r;
       after = now (s .1 .1 .1 .1 .1 .1 .0);
     })
-make-ip-frame-answers who κs a r s ends promised = record { sized = ends; meets = promised }
+make-ip-frame-answers who κs a r s sizes promised = record { sized = sizes; meets = promised }
 
 pub make-ip-frame-in-place-answers : (who : ℕ) (κs : Lfts 1) (a : ArgsD in-place.signature κs) (r : ResD in-place.signature κs) (s : AtExit (endedOf 1 in-place-kinds.ps in-place-kinds.r) κs)
-    → Ends (a .1 .0) (a .1 .1 .0) (a .1 .1 .1 .0) → in-place-reads.Post κs a r s
+    → SizedEnds (a .1 .0) (a .1 .1 .0) (a .1 .1 .1 .0) → in-place-reads.Post κs a r s
     → Answered (a .0)
     (record {
       who = who;
@@ -46,10 +46,10 @@ pub make-ip-frame-in-place-answers : (who : ℕ) (κs : Lfts 1) (a : ArgsD in-pl
       answer = r;
       after = now (s .1 .1 .1 .1 .1 .1 .0);
     })
-make-ip-frame-in-place-answers who κs a r s ends promised = record { sized = ends; meets = promised }
+make-ip-frame-in-place-answers who κs a r s sizes promised = record { sized = sizes; meets = promised }
 
 pub make-tcp-frame-answers : (who : ℕ) (κs : Lfts 2) (a : ArgsD tcp-frame.signature κs) (r : ResD tcp-frame.signature κs) (s : AtExit (endedOf 2 tcp-frame-kinds.ps tcp-frame-kinds.r) κs)
-    → Ends (a .1 .0 .«dst_mac») (a .1 .0 .«src_ip») (a .1 .0 .«dst_ip») → tcp-frame-reads.Post κs a r s
+    → SizedEnds (a .1 .0 .«dst_mac») (a .1 .0 .«src_ip») (a .1 .0 .«dst_ip») → tcp-frame-reads.Post κs a r s
     → Answered (a .0)
     (record {
       who = who;
@@ -58,4 +58,4 @@ pub make-tcp-frame-answers : (who : ℕ) (κs : Lfts 2) (a : ArgsD tcp-frame.sig
       answer = r;
       after = now (s .1 .1 .1 .1 .1 .1 .0);
     })
-make-tcp-frame-answers who κs a r s ends promised = record { sized = ends; meets = promised }
+make-tcp-frame-answers who κs a r s sizes promised = record { sized = sizes; meets = promised }

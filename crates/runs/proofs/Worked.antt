@@ -23,7 +23,7 @@ use Rattle.tcp.specs.declared.Endpoints.{Endpoints}
 use Rattle.wire.specs.Rfc768.{pseudoHeader, covered, datagram}
 use Rattle.wire.specs.Rfc791.{header, headerWith}
 use Rattle.wire.specs.Rfc792.{echo, echoWith}
-use Rattle.runs.specs.Calls.{Asked, handling, makingIpFrame, makingIpFrameInPlace, makingTcpFrame, promised, Ends, SizedArrays, Call, Answered, leftBy}
+use Rattle.runs.specs.Calls.{Asked, handling, makingIpFrame, makingIpFrameInPlace, makingTcpFrame, promised, SizedEnds, SizedArrays, Call, Answered, leftBy}
 use Rattle.runs.specs.Ids.{Typed, Run, ids}
 
 -- what a host does: it asks, with so many bytes of room, or puts another record in place
@@ -96,12 +96,12 @@ answered guest asked room sized named = record { sized = sized; meets = record {
 possible : Typed (with 65535 0)
 possible = record { sized = record { mac = refl; network = record { guest = refl; gateway = refl; mask = refl } }; in-16-bits = omega arith }
 
-abbrev sizes : Ends mac address address
+abbrev sizes : SizedEnds mac address address
 sizes = record { six = refl; four = refl; four-too = refl }
 
 -- the ids that stand in the buffers
 pub ids-of-the-course : ids (course (with 65534 0) deeds) ≡ 65534 ∷ 65535 ∷ 0 ∷ 1 ∷ 2 ∷ 3 ∷ 65535 ∷ 0 ∷ []
-unfolding checksum total words sum fold header headerWith ipFrame datagram walk walkFrom reply echo echoWith replyTo dhcpFrameTo decision arpDecision ipDecision icmpDecision udpDecision dhcpDecision framing spending building outcomeOf outcome tcpFrame segment summedHeader segmentHeader options dataLimit covered pseudoHeader verdictOf
+unfolding checksum total words sum fold header headerWith ipFrame datagram walk walkFrom reply echo echoWith replyTo dhcpFrameTo decision arpDecision ipDecision icmpDecision udpDecision dhcpDecision framing spending building outcomeOf outcome tcpFrame segment summedHeader segmentHeader options dataLimit covered pseudoHeader verdictOf paper
 ids-of-the-course = refl
 
 -- the numbers of the answers to its calls, in their order

@@ -2,15 +2,15 @@
 use Prim.Native.Nat.{ℕ}
 use mathlib.Core.Path.{_≡_}
 use mathlib.Core.List.{List, []}
-use lib.ListN.{length, take}
+use mathlib.Core.Bool.{cond}
+use lib.Dec.{eqb}
+use lib.ListN.{length, take, getD}
 use Rattle.base.specs.Bytes.{part}
 use Rattle.base.specs.Runs.{Runs, leaves, Serves, leavesAll}
 use Rattle.frames.specs.Builders.{makeIpFrame, makeIpFrameInPlace}
-use Rattle.record.specs.Answer.{Outcome, Meets}
+use Rattle.record.specs.Answer.{paper, Outcome, Meets}
 use Rattle.record.specs.declared.answer.Answer.{Answer}
 use Rattle.record.specs.declared.guest.Guest.{Guest}
-use Rattle.record.specs.declared.answer.Verdict.{Verdict}
-use Rattle.record.specs.declared.answer.Verdict.the-variants.{Drop, Reply, Dns, Relay, Tcp, NoRoom, TooLong, CutType}
 use Rattle.rules.specs.Rules.{outcome}
 use Rattle.tcp.specs.Builders.{makeTcpFrame}
 use Rattle.tcp.specs.declared.Endpoints.{Endpoints}
@@ -30,7 +30,7 @@ promised guest (makingIpFrameInPlace mac source target protocol len) before = ma
 promised guest (makingTcpFrame ends seq ack flags body) before = makeTcpFrame guest ends seq ack flags body (length before)
 
 -- the lengths that a MAC and two addresses have by their types
-pub record Ends (mac source target : List ℕ) : Type 0 where
+pub record SizedEnds (mac source target : List ℕ) : Type 0 where
   pub six : length mac ≡ 6
   pub four : length source ≡ 4
   pub four-too : length target ≡ 4
@@ -38,9 +38,9 @@ pub record Ends (mac source target : List ℕ) : Type 0 where
 -- the same of the arrays that are handed in
 abbrev pub SizedArrays : Asked → Type 0
 SizedArrays (handling frame) = Unit
-SizedArrays (makingIpFrame mac source target protocol payload) = Ends mac source target
-SizedArrays (makingIpFrameInPlace mac source target protocol len) = Ends mac source target
-SizedArrays (makingTcpFrame ends seq ack flags body) = Ends (ends .«dst_mac») (ends .«src_ip») (ends .«dst_ip»)
+SizedArrays (makingIpFrame mac source target protocol payload) = SizedEnds mac source target
+SizedArrays (makingIpFrameInPlace mac source target protocol len) = SizedEnds mac source target
+SizedArrays (makingTcpFrame ends seq ack flags body) = SizedEnds (ends .«dst_mac») (ends .«src_ip») (ends .«dst_ip»)
 
 -- A call: whose it is, what is asked, the buffer that is lent, whatever it holds, and the answer with the buffer afterwards.
 pub record Call : Type 0 where
@@ -96,16 +96,9 @@ pub record Question : Type 0 where
 abbrev pub question : Call → Question
 question call = record { asked = call .asked; room = length (call .before); read = readBy (call .asked) (call .before) }
 
--- the bytes that were built and go to the guest: on 1 the first n of the buffer
-abbrev pub sent : Verdict → (buffer : List ℕ) → List ℕ
-sent (Reply n) buffer = take n buffer
-sent Drop buffer = []
-sent (Dns start len) buffer = []
-sent (Relay start len) buffer = []
-sent (Tcp len) buffer = []
-sent (NoRoom needed) buffer = []
-sent (TooLong len) buffer = []
-sent (CutType place) buffer = []
+-- the bytes that were built: where the first number told is 1, as many of the buffer's first bytes as the second says
+abbrev pub bytesBuilt : (numbers buffer : List ℕ) → List ℕ
+bytesBuilt numbers buffer = cond (eqb (getD numbers 0 0) 1) (take (getD numbers 1 0) buffer) []
 
 -- what it gets: the answer, and the bytes of what was built
 pub record Got : Type 0 where
@@ -113,4 +106,4 @@ pub record Got : Type 0 where
   pub built : List ℕ
 
 abbrev pub got : Call → Got
-got call = record { answer = call .answer; built = sent (call .answer .verdict) (call .after) }
+got call = record { answer = call .answer; built = bytesBuilt (paper (call .answer .verdict)) (call .after) }

@@ -6,10 +6,11 @@ use mathlib.Core.List.{List, [], _∷_}
 use lib.Dec.{eqb}
 use Rattle.base.specs.Bytes.{u16At}
 use Rattle.base.specs.Runs.{each, Step, gathered, StepRuns, stepsLeave, StepServes, Stretch}
+use Rattle.record.specs.Answer.{paper}
 use Rattle.record.specs.Guest.{Sized}
 use Rattle.record.specs.declared.guest.Guest.{Guest}
 use Rattle.wire.specs.Rfc894.{typeOf}
-use Rattle.runs.specs.Calls.{Asked, handling, makingIpFrame, makingIpFrameInPlace, makingTcpFrame, Call, Answered, leftBy, whose, sent}
+use Rattle.runs.specs.Calls.{Asked, handling, makingIpFrame, makingIpFrameInPlace, makingTcpFrame, Call, Answered, leftBy, whose, bytesBuilt}
 
 -- what a record's type says of it: the lengths of its arrays, and that its id has 16 bits
 pub record Typed (guest : Guest) : Type 0 where
@@ -34,12 +35,12 @@ abbrev pub StretchOf : Guest → (earlier stretch later : List (Step Guest Call)
 StretchOf = Stretch Answered leftBy Typed
 
 -- An IPv4 frame is known by its type.
-abbrev pub ipv4In : (built : List ℕ) → List (List ℕ)
-ipv4In built = cond (eqb (typeOf built) 0x0800) (built ∷ []) []
+abbrev pub ipv4In : (frame : List ℕ) → List (List ℕ)
+ipv4In frame = cond (eqb (typeOf frame) 0x0800) (frame ∷ []) []
 
 -- the one that a call built, as it stands in the buffer, or none
 abbrev pub ipv4Built : Call → List (List ℕ)
-ipv4Built call = ipv4In (sent (call .answer .verdict) (call .after))
+ipv4Built call = ipv4In (bytesBuilt (paper (call .answer .verdict)) (call .after))
 
 -- "the IPv4 frame number k built from it, counted from 0": they are listed in their order
 abbrev pub ipv4Frames : List (Step Guest Call) → List (List ℕ)
@@ -61,5 +62,5 @@ asksByArp (makingIpFrame mac source target protocol payload) = false
 asksByArp (makingIpFrameInPlace mac source target protocol len) = false
 asksByArp (makingTcpFrame ends seq ack flags body) = false
 
-abbrev pub counted : Asked → (number : ℕ) → ℕ
-counted asked number = cond (eqb number 1 && not (asksByArp asked)) 1 0
+abbrev pub framesBuilt : Asked → (number : ℕ) → ℕ
+framesBuilt asked number = cond (eqb number 1 && not (asksByArp asked)) 1 0
