@@ -125,7 +125,7 @@ uint32_t yavoledu_send(yavoledu_guest *guest, const uint8_t *frame, size_t frame
  *
  * The IPv4 frames that yavoledu_send and the builders make of one record, one after the other, carry its id at the start,
  * then that plus 1, plus 2 and so on, modulo 65,536: bytes 18 and 19 of each. Nothing else counts, ARP replies and
- * refusals among it. So two of them with the same id are a multiple of 65,536 frames apart; until the host puts another
+ * refusals among it. So two of them with the same id are a multiple of 65,536 of them apart; until the host puts another
  * record in the memory, a copy of an older one or one made anew: from there the count starts at that record's id. */
 
 /* An IPv4 frame around a payload of at most 65,515 bytes: 34 bytes and the payload. */

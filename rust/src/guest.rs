@@ -32,10 +32,10 @@ pub struct Guest {
     pub mac: [u8; 6],
     /// The id of the next IPv4 frame that is built for the guest. It goes from 65,535 to 0.
     ///
-    /// The frames that [`Guest::send`], [`Guest::make_ip_frame`] and [`Guest::make_tcp_frame`] build, one after the other, carry
-    /// it at the start, then that plus 1, plus 2 and so on, modulo 65,536, in their bytes 18 and 19. Nothing else takes an id,
-    /// neither an ARP reply nor a refusal; so two frames with the same one are a multiple of 65,536 frames apart. From a record
-    /// that the host puts in this one's place, an older or a new one, the count starts anew.
+    /// The IPv4 frames that [`Guest::send`], [`Guest::make_ip_frame`] and [`Guest::make_tcp_frame`] build, one after the other,
+    /// carry it at the start, then that plus 1, plus 2 and so on, modulo 65,536, in their bytes 18 and 19. Nothing else takes an
+    /// id, neither an ARP reply nor a refusal; so two of them with the same id are a multiple of 65,536 of them apart. From a
+    /// record that the host puts in this one's place, an older or a new one, the count starts anew.
     pub id: u16,
     /// The xid of the last DHCP message that was looked into: 240 bytes or more, its first byte 1, and not refused. Its first
     /// byte in the message is the highest.

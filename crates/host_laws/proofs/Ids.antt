@@ -1,12 +1,9 @@
 -- Document 02, 8/13, for what a host in C links: what an exported call tells of a frame that it built is what the core's promise has of it, so the same law of a counter holds.
 use Prim.Native.Nat.{ℕ, _+_, _%_, _≤_, _<_}
-use mathlib.Core.Bool.{Bool, cond}
 use mathlib.Core.Path.{_≡_, refl, ap, sym, subst, _∙_}
 use mathlib.Core.List.{List, [], _∷_, _++_}
 use native.Mathlib.Omega.{arith}
-use borrow.Author.Tests.{eq-eqb, ne-eqb}
-use lib.ListN.{length, take, drop, getD}
-use lib.Seq.{take-at}
+use lib.ListN.{length, getD}
 use Rattle.base.proofs.Counting.{Counted, counter-in-16-bits, counter-moved, stretch-counts-on, stretch-leaves, whole-counts-on, counts-anew}
 use Rattle.base.proofs.Runs.{as-if-alone}
 use Rattle.base.specs.Counting.{CountsOn}

@@ -20,8 +20,10 @@ enum Comes {
     Ipv4,
     /// An ARP reply, which takes none.
     Arp,
-    /// Nothing is built: a drop, a handoff or a refusal.
-    Nothing,
+    /// A datagram in no frame, which takes none.
+    Alone,
+    /// Nothing is built: a drop, a handoff or a refusal, of this number.
+    Nothing(u8),
 }
 
 /// A call that a run may make.
@@ -48,10 +50,10 @@ fn call(name: &'static str, comes: Comes, room: usize, asked: Asked) -> Call {
     }
 }
 
-/// Every kind of answer that the gateway and the builders have, each from more than one side.
+/// Every answer that the gateway and the builders have.
 fn calls() -> Vec<Call> {
     use Asked::{Datagram, Frame, IpFrame, TcpFrame};
-    use Comes::{Arp, Ipv4, Nothing};
+    use Comes::{Alone, Arp, Ipv4, Nothing};
 
     let ping_of = |len: usize| ping(&pattern(len - 4));
     let discover = || Frame(from_dhcp_client(&dhcp_message(&DISCOVER)));
@@ -91,67 +93,77 @@ fn calls() -> Vec<Call> {
         ),
         call("ARP", Arp, 42, Frame(arp_request())),
         call("ARP, more room", Arp, 1_514, Frame(arp_request())),
-        call("no byte", Nothing, 1_514, Frame(vec![])),
+        call("no byte", Nothing(0), 1_514, Frame(vec![])),
         call(
             "13 bytes",
-            Nothing,
+            Nothing(0),
             1_514,
             Frame(ping(&PING)[..13].to_vec()),
         ),
         call(
             "ARP for another",
-            Nothing,
+            Nothing(0),
             1_514,
             Frame(arp_request_for(TARGET)),
         ),
         call(
             "ping for another",
-            Nothing,
+            Nothing(0),
             1_514,
             Frame(ping_to(TARGET, &PING)),
         ),
-        call("another cookie, xid noted", Nothing, 1_514, other_cookie()),
-        call("DNS", Nothing, 1_514, datagram_to(GATEWAY_IP, 53)),
-        call("relay", Nothing, 1_514, datagram_to(TARGET, 7)),
+        call(
+            "another cookie, xid noted",
+            Nothing(0),
+            1_514,
+            other_cookie(),
+        ),
+        call("DNS", Nothing(2), 1_514, datagram_to(GATEWAY_IP, 53)),
+        call("relay", Nothing(3), 1_514, datagram_to(TARGET, 7)),
         call(
             "TCP",
-            Nothing,
+            Nothing(4),
             1_514,
             Frame(from_guest(TCP, TARGET, &pattern(20))),
         ),
-        call("5 to a ping", Nothing, 41, Frame(ping(&PING))),
-        call("5 to a ping, no room", Nothing, 0, Frame(ping_of(63))),
-        call("5 to a discover", Nothing, 341, discover()),
-        call("5 to ARP", Nothing, 41, Frame(arp_request())),
-        call("5 of an IPv4 frame", Nothing, 33, IpFrame(vec![])),
-        call("5 of a SYN", Nothing, 61, TcpFrame(SYN, vec![])),
-        call("5 of a segment", Nothing, 152, TcpFrame(ACK, pattern(99))),
-        call("6 to a ping", Nothing, 65_550, too_long()),
+        call("5 to a ping", Nothing(5), 41, Frame(ping(&PING))),
+        call("5 to a ping, no room", Nothing(5), 0, Frame(ping_of(63))),
+        call("5 to a discover", Nothing(5), 341, discover()),
+        call("5 to ARP", Nothing(5), 41, Frame(arp_request())),
+        call("5 of an IPv4 frame", Nothing(5), 33, IpFrame(vec![])),
+        call("5 of a SYN", Nothing(5), 61, TcpFrame(SYN, vec![])),
+        call(
+            "5 of a segment",
+            Nothing(5),
+            152,
+            TcpFrame(ACK, pattern(99)),
+        ),
+        call("6 to a ping", Nothing(6), 65_550, too_long()),
         call(
             "6 of an IPv4 frame",
-            Nothing,
+            Nothing(6),
             65_550,
             IpFrame(pattern(65_516)),
         ),
         call(
             "6 of a SYN",
-            Nothing,
+            Nothing(6),
             65_550,
             TcpFrame(SYN, pattern(65_488)),
         ),
         call(
             "6 of a segment",
-            Nothing,
+            Nothing(6),
             65_550,
             TcpFrame(ACK, pattern(65_496)),
         ),
         call(
             "7",
-            Nothing,
+            Nothing(7),
             1_514,
             Frame(from_dhcp_client(&dhcp_message(&[53, 1]))),
         ),
-        call("datagram alone", Nothing, 1_514, Datagram(pattern(77))),
+        call("datagram alone", Alone, 1_514, Datagram(pattern(77))),
     ]
 }
 
@@ -159,19 +171,24 @@ impl Call {
     /// Makes the call in the front of `buffer`, and answers the id of the IPv4 frame that then stands there, if one does.
     fn make(&self, guest: &mut Guest, buffer: &mut [u8]) -> Option<u16> {
         let out = &mut buffer[..self.room];
-        let n = match &self.asked {
-            Asked::Frame(frame) => match guest.send(frame, out) {
-                Verdict::Reply(n) => n,
-                _ => return self.is_done(Comes::Nothing, None),
-            },
+        let (number, n) = self.answer(guest, out);
+        let came = match (number, &self.asked) {
+            (1, Asked::Datagram(_)) => Comes::Alone,
+            (1, _) if out[..n][12..14] == [0x08, 0x00] => Comes::Ipv4,
+            (1, _) if out[..n][12..14] == [0x08, 0x06] => Comes::Arp,
+            (1, _) => panic!("{}: neither IPv4 nor ARP: {:02x?}", self.name, &out[..n]),
+            _ => Comes::Nothing(number),
+        };
+        assert_eq!(came, self.comes, "{}", self.name);
+        (came == Comes::Ipv4).then(|| u16::from_be_bytes([out[..n][18], out[..n][19]]))
+    }
+
+    /// Document 01's number of the answer, and on 1 the bytes built.
+    fn answer(&self, guest: &mut Guest, out: &mut [u8]) -> (u8, usize) {
+        let built = match &self.asked {
+            Asked::Frame(frame) => return numbered(guest.send(frame, out)),
             Asked::IpFrame(payload) => {
-                let (to, from) = (GUEST_IP, TARGET);
-                match guest.make_ip_frame(GUEST_MAC, from, to, 99, payload, out) {
-                    Ok(n) => n,
-                    Err(Refusal::NoRoom(_) | Refusal::TooLong(_)) => {
-                        return self.is_done(Comes::Nothing, None);
-                    }
-                }
+                guest.make_ip_frame(GUEST_MAC, TARGET, GUEST_IP, 99, payload, out)
             }
             Asked::TcpFrame(flags, data) => {
                 let ends = Endpoints {
@@ -181,50 +198,28 @@ impl Call {
                     dst_ip: GUEST_IP,
                     dst_port: 49_152,
                 };
-                match guest.make_tcp_frame(&ends, 1, 2, *flags, data, out) {
-                    Ok(n) => n,
-                    Err(Refusal::NoRoom(_) | Refusal::TooLong(_)) => {
-                        return self.is_done(Comes::Nothing, None);
-                    }
-                }
+                guest.make_tcp_frame(&ends, 1, 2, *flags, data, out)
             }
-            Asked::Datagram(data) => {
-                make_udp_payload(TARGET, 7, GUEST_IP, 1024, data, out).unwrap();
-                return self.is_done(Comes::Nothing, None);
-            }
+            Asked::Datagram(data) => make_udp_payload(TARGET, 7, GUEST_IP, 1024, data, out),
         };
-        match out[..n] {
-            [
-                _,
-                _,
-                _,
-                _,
-                _,
-                _,
-                _,
-                _,
-                _,
-                _,
-                _,
-                _,
-                0x08,
-                0x00,
-                _,
-                _,
-                _,
-                _,
-                high,
-                low,
-                ..,
-            ] => self.is_done(Comes::Ipv4, Some(u16::from_be_bytes([high, low]))),
-            [_, _, _, _, _, _, _, _, _, _, _, _, 0x08, 0x06, ..] => self.is_done(Comes::Arp, None),
-            _ => panic!("{}: neither IPv4 nor ARP: {:02x?}", self.name, &out[..n]),
+        match built {
+            Ok(n) => (1, n),
+            Err(Refusal::NoRoom(_)) => (5, 0),
+            Err(Refusal::TooLong(_)) => (6, 0),
         }
     }
+}
 
-    fn is_done(&self, came: Comes, id: Option<u16>) -> Option<u16> {
-        assert_eq!(came, self.comes, "{}", self.name);
-        id
+fn numbered(verdict: Verdict) -> (u8, usize) {
+    match verdict {
+        Verdict::Drop => (0, 0),
+        Verdict::Reply(n) => (1, n),
+        Verdict::Dns { .. } => (2, 0),
+        Verdict::Relay { .. } => (3, 0),
+        Verdict::Tcp(_) => (4, 0),
+        Verdict::NoRoom(_) => (5, 0),
+        Verdict::TooLong(_) => (6, 0),
+        Verdict::CutType(_) => (7, 0),
     }
 }
 
@@ -318,7 +313,7 @@ fn a_new_record_counts_from_1() {
 }
 
 #[test]
-fn a_run_counts_on_from_any_id() {
+fn a_run_counts_on_from_other_ids() {
     for (start, seed) in [(0, 1), (65_535, 2), (0x80ff, 3)] {
         assert_counts_on(guest_with_id(start), seed);
     }
@@ -343,16 +338,17 @@ fn each_call_by_itself_takes_one_id_or_none() {
 fn from_an_older_or_a_fresh_record_the_count_starts_anew() {
     let mut draw = Draw(4);
     let mut guest = guest_with_id(65_000);
-    let older = {
-        run(&mut guest, &mut draw, 1_000);
-        guest.clone()
-    };
-    let (ids, _) = run(&mut guest, &mut draw, 70_000);
-    assert_eq!(first_wrong(older.id, &ids), None);
+    let (first, _) = run(&mut guest, &mut draw, 1_000);
+    assert_eq!(first_wrong(65_000, &first), None);
 
-    guest = older.clone();
+    // 65,000 and 1,000 more, modulo 65,536
+    let older = guest.clone();
+    let (ids, _) = run(&mut guest, &mut draw, 70_000);
+    assert_eq!(first_wrong(464, &ids), None);
+
+    guest = older;
     let (again, _) = run(&mut guest, &mut draw, 70_000);
-    assert_eq!(first_wrong(older.id, &again), None);
+    assert_eq!(first_wrong(464, &again), None);
 
     guest = new_record();
     let (fresh, _) = run(&mut guest, &mut draw, 70_000);
@@ -360,7 +356,7 @@ fn from_an_older_or_a_fresh_record_the_count_starts_anew() {
 
     // over the whole of it, what is claimed of one count does not hold
     let all = [ids, again, fresh].concat();
-    assert_eq!(first_wrong(older.id, &all), Some(70_000));
+    assert_eq!(first_wrong(464, &all), Some(70_000));
     assert!(first_too_near(&all).is_some());
 }
 
