@@ -1,26 +1,14 @@
 -- The room that a host has to lend, said of the exported entry.
 use Prim.Native.Nat.{ℕ, _≤_}
-use mathlib.Core.List.{List, [], _∷_}
-use mathlib.Core.Path.{_≡_, refl, ap, sym, subst, _∙_}
+use mathlib.Core.List.{List}
+use mathlib.Core.Path.{_≡_, ap, sym, subst, _∙_}
 use lib.ListN.{length, getD}
 use Rattle.record.specs.declared.guest.Guest.{Guest}
+use Rattle.host.proofs.Telling.{told-number, told-value}
 use Rattle.host.specs.Exported.{Sent}
-use Rattle.verdict_numbers.specs.Numbers.{padded}
 use Rattle.rules.proofs.Room.{never-five, never-longer}
 use Rattle.rules.specs.Room.{Ample}
 use Rattle.rules.specs.Rules.{outcome}
-
--- the number and the first value, from what is told
-told-number : (numbers : List ℕ) → getD (padded numbers) 0 0 ≡ getD numbers 0 0
-unfolding padded
-told-number [] = refl
-told-number (n ∷ ns) = refl
-
-told-value : (numbers : List ℕ) → getD (padded numbers) 1 0 ≡ getD numbers 1 0
-unfolding padded
-told-value [] = refl
-told-value (n ∷ []) = refl
-told-value (n ∷ v ∷ vs) = refl
 
 -- With ample room `yavoledu_send` never answers 5, and a reply has at most 65,549 bytes.
 module _ (guest : Guest) (frame before after : List ℕ) (n : ℕ) (vs : List ℕ) (g : Guest) (s : Sent (outcome guest frame (length before)) before after n vs g) where

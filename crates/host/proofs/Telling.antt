@@ -1,9 +1,10 @@
 -- From what a call of ours promises to what an exported call tells.
 use Prim.Native.Nat.{ℕ}
 use mathlib.Core.Bool.{Bool, true, false, cond}
-use mathlib.Core.List.{List, _∷_}
-use mathlib.Core.Path.{_≡_, sym, ap, _∙_}
+use mathlib.Core.List.{List, [], _∷_}
+use mathlib.Core.Path.{_≡_, refl, sym, ap, _∙_}
 use lib.Dec.{ltb}
+use lib.ListN.{getD}
 use Rattle.record.specs.Answer.{Meets, Writing, Wrote, paper, spending}
 use Rattle.record.specs.Guest.{spent, withId}
 use Rattle.record.specs.declared.answer.Answer.{Answer}
@@ -15,6 +16,18 @@ use Rattle.host.specs.Exported.{Built, Told}
 use Rattle.verdict_numbers.specs.Numbers.{padded}
 use Rattle.reader.specs.Reported.{reportOf}
 use Rattle.reader.specs.declared.parts.Reading.{Reading}
+
+-- the number and the first value, from what is told
+pub told-number : (numbers : List ℕ) → getD (padded numbers) 0 0 ≡ getD numbers 0 0
+unfolding padded
+told-number [] = refl
+told-number (n ∷ ns) = refl
+
+pub told-value : (numbers : List ℕ) → getD (padded numbers) 1 0 ≡ getD numbers 1 0
+unfolding padded
+told-value [] = refl
+told-value (n ∷ []) = refl
+told-value (n ∷ v ∷ vs) = refl
 
 pub told-of : {w : Writing} {before after : List ℕ} {v : Verdict} {number : ℕ} {values : List ℕ}
     → Wrote w before after v → number ∷ values ≡ padded (paper v) → Told w before after number values

@@ -9,6 +9,7 @@ use Rattle.base.proofs.Runs.{as-if-alone}
 use Rattle.base.specs.Counting.{CountsOn}
 use Rattle.base.specs.Runs.{callsOf, Step, replaced, stepLeaves, stepOf, Unreplaced, StepKeeps}
 use Rattle.host.proofs.OneAnswer.{yavoledu-send-settled}
+use Rattle.host.proofs.Telling.{told-number, told-value}
 use Rattle.host.specs.Exported.{Told}
 use Rattle.making.specs.Making.{paper}
 use Rattle.making.specs.Over.{MadeOver, made, refused}
@@ -21,7 +22,6 @@ use Rattle.runs.proofs.Ids.{counted-once, as-many, with-header}
 use Rattle.runs.proofs.Written.{Comes, comes, built-as-promised}
 use Rattle.runs.specs.Calls.{Asked, handling, makingIpFrame, makingIpFrameInPlace, makingTcpFrame, promised, bytesBuilt}
 use Rattle.runs.specs.Ids.{Typed, idIn, framesBuilt}
-use Rattle.verdict_numbers.specs.Numbers.{padded}
 use Rattle.host_laws.specs.OnRecord.{CallInC, PromisedInC, AnsweredInC, leftInC, whoseInC, RunInC, recordBehindInC, RunOfManyInC, StretchInC, ipv4BuiltInC, idsInC}
 
 -- what it tells of the buffer is what is to come
@@ -45,20 +45,9 @@ settled (makingIpFrame mac source target protocol payload) guest call p = subst 
 settled (makingTcpFrame ends seq ack flags body) guest call p = subst (Settled guest) (sym (p .1)) (record { mac-kept = refl; network-kept = refl })
 settled (makingIpFrameInPlace mac source target protocol len) guest call p = absurd p
 
--- the first two numbers told are the first two that are to come
-first-told : (numbers : List ℕ) → getD (padded numbers) 0 0 ≡ getD numbers 0 0
-unfolding padded
-first-told [] = refl
-first-told (n ∷ rest) = refl
-
-second-told : (numbers : List ℕ) → getD (padded numbers) 1 0 ≡ getD numbers 1 0
-unfolding padded
-second-told [] = refl
-second-told (n ∷ []) = refl
-second-told (n ∷ m ∷ rest) = refl
-
+-- the number told is the first that is to come
 number-is : (o : Outcome) (call : CallInC) → Told (o .writing) (call .before) (call .after) (call .number) (call .values) → call .number ≡ getD (o .writing .numbers) 0 0
-number-is o call t = ap (λ (l : List ℕ). getD l 0 0) (t .numbers) ∙ first-told (o .writing .numbers)
+number-is o call t = ap (λ (l : List ℕ). getD l 0 0) (t .numbers) ∙ told-number (o .writing .numbers)
 
 module _ (guest : Guest) (call : CallInC) (typed : Typed guest) (k : AnsweredInC guest call) where
   abbrev to-come : Outcome
@@ -73,7 +62,7 @@ module _ (guest : Guest) (call : CallInC) (typed : Typed guest) (k : AnsweredInC
   built-of-it : bytesBuilt (call .number ∷ call .values) (call .after) ≡ to-come .writing .image
   built-of-it =
       built-as-promised (call .asked) (guest .id) to-come (call .number ∷ call .values) (call .before) (call .after) comes-of-it (number-is to-come call told-of-it)
-      (ap (λ (l : List ℕ). getD l 1 0) (told-of-it .numbers) ∙ second-told (to-come .writing .numbers)) (told-of-it .bytes)
+      (ap (λ (l : List ℕ). getD l 1 0) (told-of-it .numbers) ∙ told-value (to-come .writing .numbers)) (told-of-it .bytes)
 
   counts : Counted idIn (guest .id) (ipv4BuiltInC call) (leftInC call .id)
   counts = rw (built-of-it, id-left (call .asked) guest call (k .promised)) (counted-once (call .asked) (guest .id) to-come comes-of-it)
