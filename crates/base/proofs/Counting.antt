@@ -48,10 +48,38 @@ pub counter-moved : {F : Type 0} {mark : F → ℕ} {now then : ℕ} {made : Lis
 counter-moved small (none e stood) = omega (arith, stood, ap length e, small)
 counter-moved small (one thing e shown moved) = omega (arith, moved, ap length e)
 
-module _ {S C F : Type 0} (Keeps : S → C → Type 0) (after : C → S) (Possible : S → Type 0) (next : S → ℕ) (made : C → List F) (mark : F → ℕ)
-    (in-16-bits : (state : S) → Possible state → next state < 65536)
-    (stays : (state : S) (call : C) → Possible state → Keeps state call → Possible (after call))
-    (counts : (state : S) (call : C) → Possible state → Keeps state call → Counted mark (next state) (made call) (next (after call))) where
+-- A counter over runs of calls: what a run asks of a call and what a call leaves, which states there can be, where the counter stands in one, what a call makes and the number that
+-- this shows; that the counter has 16 bits, that a state stays possible, and that each call counts or leaves the counter alone.
+pub record Counter (S C F : Type 0) : Type 1 where
+  pub Keeps : S → C → Type 0
+  pub after : C → S
+  pub Possible : S → Type 0
+  pub next : S → ℕ
+  pub made : C → List F
+  pub mark : F → ℕ
+  pub in-16-bits : (state : S) → Possible state → next state < 65536
+  pub stays : (state : S) (call : C) → Possible state → Keeps state call → Possible (after call)
+  pub counts : (state : S) (call : C) → Possible state → Keeps state call → Counted mark (next state) (made call) (next (after call))
+
+module _ {S C F : Type 0} (c : Counter S C F) where
+  abbrev Keeps : S → C → Type 0
+  Keeps = c .Keeps
+
+  abbrev after : C → S
+  after = c .after
+
+  abbrev Possible : S → Type 0
+  Possible = c .Possible
+
+  abbrev next : S → ℕ
+  next = c .next
+
+  abbrev made : C → List F
+  made = c .made
+
+  abbrev mark : F → ℕ
+  mark = c .mark
+
   abbrev Run : S → List (Step S C) → Type 0
   Run = StepRuns Keeps after Possible
 
@@ -67,7 +95,7 @@ module _ {S C F : Type 0} (Keeps : S → C → Type 0) (after : C → S) (Possib
   numbered state [] possible run unreplaced k there = absurd (omega arith)
   numbered state (replaced who other ∷ rest) possible run unreplaced k there = absurd unreplaced
   numbered state (called call ∷ rest) possible (kept, run) unreplaced k there =
-      go (counts state call possible kept) (numbered (after call) rest (stays state call possible kept) run unreplaced) k there
+      go (c .counts state call possible kept) (numbered (after call) rest (c .stays state call possible kept) run unreplaced) k there
     where
       go : Counted mark (next state) (made call) (next (after call))
           → ((k : ℕ) → k < length (marks rest) → getD (marks rest) k 0 ≡ (next (after call) + k) % 65536)
@@ -77,7 +105,7 @@ module _ {S C F : Type 0} (Keeps : S → C → Type 0) (after : C → S) (Possib
           ap (λ (l : List ℕ). getD l k 0) same ∙ ih k (omega (arith, ap length same)) ∙ ap (λ (n : ℕ). (n + k) % 65536) stood
       go (one thing e shown moved) ih zero there =
           let same : marks (called call ∷ rest) ≡ mark thing ∷ marks rest = ap (λ (l : List F). each mark (l ++ gathered made rest)) e in
-          ap (λ (l : List ℕ). getD l 0 0) same ∙ omega (arith, shown, in-16-bits state possible)
+          ap (λ (l : List ℕ). getD l 0 0) same ∙ omega (arith, shown, c .in-16-bits state possible)
       go (one thing e shown moved) ih (suc k) there =
           let same : marks (called call ∷ rest) ≡ mark thing ∷ marks rest = ap (λ (l : List F). each mark (l ++ gathered made rest)) e in
           ap (λ (l : List ℕ). getD l (suc k) 0) same ∙ ih k (omega (arith, ap length same)) ∙ omega (arith, moved)
@@ -85,11 +113,11 @@ module _ {S C F : Type 0} (Keeps : S → C → Type 0) (after : C → S) (Possib
   -- and behind them the counter is its start plus their number
   stands : (state : S) (steps : List (Step S C)) → Possible state → Run state steps → Unreplaced steps
       → next (left state steps) ≡ (next state + length (marks steps)) % 65536
-  stands state [] possible run unreplaced = omega (arith, in-16-bits state possible)
+  stands state [] possible run unreplaced = omega (arith, c .in-16-bits state possible)
   stands state (replaced who other ∷ rest) possible run unreplaced = absurd unreplaced
   stands state (called call ∷ rest) possible (kept, run) unreplaced =
-      let moved = counter-moved (in-16-bits state possible) (counts state call possible kept) in
-      let ih = stands (after call) rest (stays state call possible kept) run unreplaced in
+      let moved = counter-moved (c .in-16-bits state possible) (c .counts state call possible kept) in
+      let ih = stands (after call) rest (c .stays state call possible kept) run unreplaced in
       let long : length (marks (called call ∷ rest)) ≡ length (made call) + length (marks rest) = length-marks (made call) (gathered made rest) in
       omega (arith, ih, moved, long)
     where
@@ -99,7 +127,7 @@ module _ {S C F : Type 0} (Keeps : S → C → Type 0) (after : C → S) (Possib
 
   -- what every step keeps
   step-stays : (state : S) (step : Step S C) → Possible state → StepKeeps Keeps after Possible state step → Possible (stepLeaves after step)
-  step-stays state (called call) possible kept = stays state call possible kept
+  step-stays state (called call) possible kept = c .stays state call possible kept
   step-stays state (replaced who other) possible kept = kept
 
   -- So in any stretch of a run what is shown counts on from where the steps before it left the counter.

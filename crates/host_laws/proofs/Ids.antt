@@ -4,7 +4,7 @@ use mathlib.Core.Path.{_≡_, refl, ap, sym, subst, _∙_}
 use mathlib.Core.List.{List, [], _∷_, _++_}
 use native.Mathlib.Omega.{arith}
 use lib.ListN.{length, getD}
-use Rattle.base.proofs.Counting.{Counted, counter-in-16-bits, counter-moved, stretch-counts-on, stretch-leaves, whole-counts-on, counts-anew}
+use Rattle.base.proofs.Counting.{Counted, Counter, counter-in-16-bits, counter-moved, stretch-counts-on, stretch-leaves, whole-counts-on, counts-anew}
 use Rattle.base.proofs.Runs.{as-if-alone}
 use Rattle.base.specs.Counting.{CountsOn}
 use Rattle.base.specs.Runs.{callsOf, Step, replaced, stepLeaves, stepOf, Unreplaced, StepKeeps}
@@ -74,30 +74,45 @@ module _ (guest : Guest) (call : CallInC) (typed : Typed guest) (k : AnsweredInC
   pub as-many-as-told : length (ipv4BuiltInC call) ≡ framesBuilt (call .asked) (call .number)
   as-many-as-told = rw (built-of-it, number-is to-come call told-of-it) (as-many (call .asked) (guest .id) to-come comes-of-it)
 
+  pub moved-on-by-as-many : leftInC call .id ≡ (guest .id + length (ipv4BuiltInC call)) % 65536
+  moved-on-by-as-many = counter-moved (typed .in-16-bits) counts
+
   -- each of them with its whole header
   pub built-with-header : (n : ℕ) → n < length (ipv4BuiltInC call) → 34 ≤ length (getD (ipv4BuiltInC call) n [])
   built-with-header = rw built-of-it (with-header (call .asked) (guest .id) to-come comes-of-it)
 
-  pub moved-on-by-as-many : leftInC call .id ≡ (guest .id + length (ipv4BuiltInC call)) % 65536
-  moved-on-by-as-many = counter-moved (typed .in-16-bits) counts
+-- the ids of the frames built, as a counter over runs
+abbrev the-ids : Counter Guest CallInC (List ℕ)
+the-ids =
+    record {
+      Keeps = AnsweredInC;
+      after = leftInC;
+      Possible = Typed;
+      next = λ (g : Guest). g .id;
+      made = ipv4BuiltInC;
+      mark = idIn;
+      in-16-bits = λ g t. t .in-16-bits;
+      stays = stays;
+      counts = counts;
+    }
 
 -- The ids of the frames that a stretch of a run builds count on from the record that the steps before it left in memory,
 pub ids-count-on : (guest : Guest) (earlier stretch later : List (Step Guest CallInC)) → StretchInC guest earlier stretch later → CountsOn (recordBehindInC guest earlier .id) (idsInC stretch)
-ids-count-on = stretch-counts-on AnsweredInC leftInC Typed (λ (g : Guest). g .id) ipv4BuiltInC idIn (λ g t. t .in-16-bits) stays counts
+ids-count-on = stretch-counts-on the-ids
 
 -- and the record behind it has the next one.
 pub next-id-left : (guest : Guest) (earlier stretch later : List (Step Guest CallInC)) → StretchInC guest earlier stretch later
     → recordBehindInC guest (earlier ++ stretch) .id ≡ (recordBehindInC guest earlier .id + length (idsInC stretch)) % 65536
-next-id-left = stretch-leaves AnsweredInC leftInC Typed (λ (g : Guest). g .id) ipv4BuiltInC idIn (λ g t. t .in-16-bits) stays counts
+next-id-left = stretch-leaves the-ids
 
 -- "the IPv4 frame number k built from it, counted from 0, carries the starting id plus k, modulo 65,536, and any 65,536 such frames in a row carry different ids"
 pub from-the-start : (guest : Guest) (steps : List (Step Guest CallInC)) → Typed guest → RunInC guest steps → Unreplaced steps → CountsOn (guest .id) (idsInC steps)
-from-the-start = whole-counts-on AnsweredInC leftInC Typed (λ (g : Guest). g .id) ipv4BuiltInC idIn (λ g t. t .in-16-bits) stays counts
+from-the-start = whole-counts-on the-ids
 
 -- "so long as the host doesn't put an older or fresh record in its place; from such a moment the count starts anew"
 pub anew : (guest other : Guest) (who : ℕ) (earlier stretch later : List (Step Guest CallInC)) → Typed guest
     → RunInC guest (earlier ++ replaced who other ∷ stretch ++ later) → Unreplaced stretch → CountsOn (other .id) (idsInC stretch)
-anew = counts-anew AnsweredInC leftInC Typed (λ (g : Guest). g .id) ipv4BuiltInC idIn (λ g t. t .in-16-bits) stays counts
+anew = counts-anew the-ids
 
 -- A host of many guests: the steps on one guest's record are a run of their own, whatever is asked for the others, in whatever order. So all that is said above is said of each guest.
 pub alone-in-a-run : (host : ℕ → Guest) (steps : List (Step Guest CallInC)) (who : ℕ) → RunOfManyInC host steps → RunInC (host who) (callsOf (stepOf whoseInC) who steps)

@@ -7,7 +7,7 @@ use native.Mathlib.Omega.{arith}
 use borrow.Author.Tests.{eq-eqb, ne-eqb}
 use lib.Dec.{eqb}
 use lib.ListN.{length, getD}
-use Rattle.base.proofs.Counting.{Counted, none, one, counter-in-16-bits, counter-moved, stretch-counts-on, stretch-leaves, whole-counts-on, counts-anew}
+use Rattle.base.proofs.Counting.{Counted, none, one, Counter, counter-in-16-bits, counter-moved, stretch-counts-on, stretch-leaves, whole-counts-on, counts-anew}
 use Rattle.base.proofs.Runs.{as-if-alone}
 use Rattle.base.specs.Counting.{CountsOn}
 use Rattle.base.specs.Runs.{callsOf, Step, replaced, stepLeaves, stepOf, Unreplaced, StepKeeps}
@@ -73,30 +73,45 @@ module _ (guest : Guest) (call : Call) (typed : Typed guest) (a : Answered guest
   pub as-many-as-answered : length (ipv4Built call) ≡ framesBuilt (call .asked) (getD (paper (call .answer .verdict)) 0 0)
   as-many-as-answered = rw (image-of-it, a .meets .wrote .numbers) (as-many (call .asked) (guest .id) (promised guest (call .asked) (call .before)) comes-of-it)
 
+  pub moved-on-by-as-many : leftBy call .id ≡ (guest .id + length (ipv4Built call)) % 65536
+  moved-on-by-as-many = counter-moved (typed .in-16-bits) counts
+
   -- each of them with its whole header
   pub built-with-header : (k : ℕ) → k < length (ipv4Built call) → 34 ≤ length (getD (ipv4Built call) k [])
   built-with-header = rw image-of-it (with-header (call .asked) (guest .id) (promised guest (call .asked) (call .before)) comes-of-it)
 
-  pub moved-on-by-as-many : leftBy call .id ≡ (guest .id + length (ipv4Built call)) % 65536
-  moved-on-by-as-many = counter-moved (typed .in-16-bits) counts
+-- the ids of the frames built, as a counter over runs
+abbrev the-ids : Counter Guest Call (List ℕ)
+the-ids =
+    record {
+      Keeps = Answered;
+      after = leftBy;
+      Possible = Typed;
+      next = λ (g : Guest). g .id;
+      made = ipv4Built;
+      mark = idIn;
+      in-16-bits = λ g t. t .in-16-bits;
+      stays = stays;
+      counts = counts;
+    }
 
 -- The ids of the frames that a stretch of a run builds count on from the record that the steps before it left,
 pub ids-count-on : (guest : Guest) (earlier stretch later : List (Step Guest Call)) → StretchOf guest earlier stretch later → CountsOn (recordBehind guest earlier .id) (ids stretch)
-ids-count-on = stretch-counts-on Answered leftBy Typed (λ (g : Guest). g .id) ipv4Built idIn (λ g t. t .in-16-bits) stays counts
+ids-count-on = stretch-counts-on the-ids
 
 -- and the record behind it has the next one.
 pub next-id-left : (guest : Guest) (earlier stretch later : List (Step Guest Call)) → StretchOf guest earlier stretch later
     → recordBehind guest (earlier ++ stretch) .id ≡ (recordBehind guest earlier .id + length (ids stretch)) % 65536
-next-id-left = stretch-leaves Answered leftBy Typed (λ (g : Guest). g .id) ipv4Built idIn (λ g t. t .in-16-bits) stays counts
+next-id-left = stretch-leaves the-ids
 
 -- "the IPv4 frame number k built from it, counted from 0, carries the starting id plus k, modulo 65,536, and any 65,536 such frames in a row carry different ids"
 pub from-the-start : (guest : Guest) (steps : List (Step Guest Call)) → Typed guest → Run guest steps → Unreplaced steps → CountsOn (guest .id) (ids steps)
-from-the-start = whole-counts-on Answered leftBy Typed (λ (g : Guest). g .id) ipv4Built idIn (λ g t. t .in-16-bits) stays counts
+from-the-start = whole-counts-on the-ids
 
 -- "so long as the host doesn't put an older or fresh record in its place; from such a moment the count starts anew"
 pub anew : (guest other : Guest) (who : ℕ) (earlier stretch later : List (Step Guest Call)) → Typed guest
     → Run guest (earlier ++ replaced who other ∷ stretch ++ later) → Unreplaced stretch → CountsOn (other .id) (ids stretch)
-anew = counts-anew Answered leftBy Typed (λ (g : Guest). g .id) ipv4Built idIn (λ g t. t .in-16-bits) stays counts
+anew = counts-anew the-ids
 
 -- A host of many guests: the steps on one guest's record are a run of their own, whatever is asked for the others, in whatever order. So all that is said above is said of each guest.
 pub alone-in-a-run : (host : ℕ → Guest) (steps : List (Step Guest Call)) (who : ℕ) → RunOfMany host steps → Run (host who) (callsOf (stepOf whose) who steps)

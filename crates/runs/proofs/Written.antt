@@ -1,4 +1,4 @@
--- What a call writes, by what its contract promises: nothing, an IPv4 frame that carries the record's id, or an ARP reply; and that the bytes sent are those that are to come.
+-- What a call writes, by what its contract promises: nothing, an IPv4 frame that carries the record's id, or an ARP reply; and that the bytes built are those that are to come.
 use Prim.Native.Nat.{ℕ, _+_, _%_, _≤_}
 use mathlib.Core.Bool.{Bool, true, false, cond}
 use mathlib.Core.Path.{_≡_, refl, ap, sym, subst, _∙_}
