@@ -19,6 +19,8 @@ SEVERAL = re.compile(r"(?m)^\s+(?:pub )?(" + NAME + r"(?: " + NAME + r")+) :")
 USE = re.compile(r"(?m)^\s*(?:ghost |pub )*use ([^\s;{]+?)\.?\{([^}]*)\}")
 # what Rattle makes of the code
 MADE = re.compile(r"(?:returns|invariant|decreases|loop|slice|overflow|Need|goal|cast|bounds)-|.*-(?:spec|requires|preserved|smaller|init)$|μ-")
+# fields of records, which are no lemmas
+FIELDS = {"more-fragments": "more_fragments", "payload-at": "payload_at", "sender-mac": "sender_mac"}
 ACRONYMS = [("IPv4", "Ipv4"), ("DHCP", "Dhcp"), ("UDP", "Udp"), ("TCP", "Tcp"), ("MAC", "Mac")]
 # the names of definitions that a lemma's name joins by a dash
 WORDS = set("""length drop take append replicate get_or set sum map reverse cons nil zero suc put part each u8_at u16_at
@@ -101,7 +103,7 @@ def main(argv):
                 break
         else:
             raise SystemExit("no name for " + old)
-        table[old] = new + ending
+        table[old] = FIELDS.get(old, new + ending)
         every.add(table[old])
         print("so:", old, "->", table[old])
     back = {}
@@ -114,7 +116,11 @@ def main(argv):
             if not path.startswith("Rattle.") or path.startswith(("Rattle.std", "Rattle.core")):
                 theirs.update(TOKEN.findall(items))
         mine = {o: n for o, n in table.items() if o not in theirs}
-        new = TOKEN.sub(lambda m: mine.get(m[0], m[0]), text)
+        # a comment's words with a dash are English, or a document's
+        code = re.compile(r"(?m)^(.*?)((?:^|(?<=\s))(?:--|//)(?:\s.*)?)?$")
+        words = {o: n for o, n in mine.items() if "-" not in o}
+        turned = lambda table, it: TOKEN.sub(lambda m: table.get(m[0], m[0]), it)
+        new = code.sub(lambda m: turned(mine, m[1]) + turned(words, m[2] or ""), text)
         if new != text:
             open(p, "w", encoding="utf-8").write(new)
 

@@ -21,7 +21,7 @@ pub record AnswersArp (frame : List ℕ) (net : Network) (request : List ℕ) : 
   pub six : Arp.hardware_length (body frame) ≡ 6
   pub four : Arp.protocol_length (body frame) ≡ 4
   pub is_reply : Arp.operation (body frame) ≡ 2
-  pub sender_mac_law : Arp.sender_mac_lem (body frame) ≡ gateway_mac
+  pub sender_mac : Arp.sender_mac_lem (body frame) ≡ gateway_mac
   pub sender_address_lem : Arp.sender_address (body frame) ≡ net.gateway
   pub target_mac_lem : Arp.sought_mac (body frame) ≡ Arp.sender_mac_lem (body request)
   pub target_address : Arp.sought_address (body frame) ≡ Arp.sender_address (body request)
@@ -40,7 +40,7 @@ arp_reads_back net request four =
       six = refl;
       four = refl;
       is_reply = refl;
-      sender_mac_law = refl;
+      sender_mac = refl;
       sender_address_lem = rw g;
       target_mac_lem = rw g;
       target_address = rw g;

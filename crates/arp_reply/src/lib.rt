@@ -1,4 +1,6 @@
 // The reply to an ARP request: the gateway's MAC for its address. No public function relies on checks by its caller.
+#![tactic(auto)]
+
 ghost use Rattle.std.specs.Prelude.{◌≡◌};
 ghost use Rattle.arp_reply.specs.Reply.{reply_to};
 ghost use Rattle.base.specs.Buffer.{put_if_fits};

@@ -1,6 +1,8 @@
 // The bitmap of a store: one bit for each block of eight bytes, 64 blocks to a word, the lowest bit
 // first. Bitmaps of any length are taken: a block that the words do not reach is not there. A run of
 // blocks is gone through word by word, so it costs by its words and not by its blocks.
+#![tactic(auto)]
+
 ghost use Rattle.std.specs.Prelude.{◌≡◌, ◌+◌, ◌-◌, ◌*◌, ◌^◌, ◌≤◌, ◌<◌, leb, length, get_or, replicate};
 ghost use Rattle.std.specs.Int.Count.{ones_in};
 ghost use Rattle.bitmap.specs.Bitmap.{bit, blocks_of_lem, Marked, count as Bitmap·count};

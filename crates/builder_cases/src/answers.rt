@@ -6,7 +6,7 @@ use vectors::part;
 use wire::bytes::{byte_at, u32be};
 
 // The end of a builder's line: room, answer, payload and the bytes before the payload.
-#[derive(Drop)]
+#[derive(Clone, Copy)]
 pub struct Expected {
     pub room: usize,
     pub number: u8,

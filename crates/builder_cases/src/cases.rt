@@ -5,7 +5,7 @@ ghost use Rattle.builder_cases.specs.Kinds.{Judged, kind_of};
 use crate::{builders, checksums, messages, whole_frames};
 use wire::bytes::byte_at;
 
-#[derive(Drop)]
+#[derive(Clone, Copy)]
 pub struct Case {
     // The line's kind without the bit of a spoiled line; 0 where no call has it.
     pub kind: u8,

@@ -1,4 +1,6 @@
 // UDP datagrams, into a lent buffer, with the checksum of RFC 768. No public function relies on checks by its caller.
+#![tactic(auto)]
+
 ghost use Rattle.std.specs.Prelude.{◌≡◌, length, ◌+◌, ◌-◌};
 ghost use Rattle.record.specs.Answer.{Wrote};
 ghost use Rattle.datagrams.specs.Builders.{make_udp_payload_lem};

@@ -1,6 +1,8 @@
 // A DHCP message, read strictly: RFC 2131, and its list of options, RFC 2132. The list reader calls the
 // item reader, which calls the list reader on what remains: at most 1,232 bytes, so the calls are at most
 // 2,465 deep.
+#![tactic(auto)]
+
 ghost use Rattle.std.specs.Prelude.{◌≡◌, ◌+◌, ◌≤◌, ◌<◌, length, drop};
 ghost use Rattle.base.specs.Bytes.{u8_at};
 ghost use Rattle.grammar.specs.Grammar.{DHCPHeader};

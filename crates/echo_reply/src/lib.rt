@@ -1,5 +1,7 @@
 // The reply to a ping: its frame is written where it goes, with one copy of the request's bytes. No public function relies
 // on checks by its caller.
+#![tactic(auto)]
+
 ghost use Rattle.std.specs.Prelude.{◌≡◌, ◌+◌, ◌≤◌, length};
 ghost use Rattle.base.specs.Buffer.{put as Buffer·put};
 ghost use Rattle.echo_reply.specs.Reply.{put_echo_lem};

@@ -11,7 +11,7 @@ const VERSION: u8 = 4;
 const SHORTEST_FRAME: usize = ethernet::HEADER + ipv4::HEADER;
 
 // A datagram's name: RFC 791, section 3.2.
-#[derive(Drop)]
+#[derive(Clone, Copy)]
 pub struct Datagram {
     pub source: u32,
     pub target: u32,
@@ -21,7 +21,7 @@ pub struct Datagram {
 
 // A fragment: its datagram, where its payload stands in the frame, its place in the datagram's
 // payload, and whether it is the last.
-#[derive(Drop)]
+#[derive(Clone, Copy)]
 pub struct Fragment {
     pub datagram: Datagram,
     pub start: usize,
@@ -30,7 +30,7 @@ pub struct Fragment {
     pub last: bool,
 }
 
-#[derive(Drop)]
+#[derive(Clone, Copy)]
 pub enum Packet {
     Unfit,
     Whole { start: usize, length: usize },

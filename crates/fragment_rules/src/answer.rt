@@ -2,13 +2,13 @@
 use fragment_packets::Datagram;
 
 // Where the datagram's payload ends, once its last fragment has come.
-#[derive(Drop)]
+#[derive(Clone, Copy)]
 pub enum End {
     Unknown,
     At(u16),
 }
 
-#[derive(Drop)]
+#[derive(Clone, Copy)]
 pub enum State {
     Empty,
     Filling { datagram: Datagram, end: End },
@@ -16,7 +16,7 @@ pub enum State {
 }
 
 // The answers of document 02; the last four are its refusals 10 to 13.
-#[derive(Drop)]
+#[derive(Clone, Copy)]
 pub enum Answer {
     Passed,
     Stored,

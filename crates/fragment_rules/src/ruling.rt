@@ -14,7 +14,7 @@ const BITMAP: usize = 128;
 
 const BLOCKS: usize = BITMAP * 64;
 
-#[derive(Drop)]
+#[derive(Clone, Copy)]
 pub enum Ruling {
     Refuse(Answer),
     Pass,

@@ -2,14 +2,14 @@
 use fragment_rules::{Answer, State};
 
 // What a call that may change the store answers: the state comes back beside the answer.
-#[derive(Drop)]
+#[derive(Clone, Copy)]
 pub struct Taken {
     pub answer: Answer,
     pub state: State,
 }
 
 // Where the payload lies that an answer hands out.
-#[derive(Drop)]
+#[derive(Clone, Copy)]
 pub enum Site {
     Frame,
     Store,

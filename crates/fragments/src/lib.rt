@@ -3,6 +3,8 @@
 // value. No function relies on checks by its caller: a store of any size, a frame of any length and any
 // state get an answer. A refusal leaves bytes, bits and state as they were. A new store is emptied by
 // `release`, whatever it holds.
+#![tactic(auto)]
+
 mod answer;
 mod handing;
 mod store;

@@ -1,4 +1,6 @@
 // The builders of IPv4 frames, into a lent buffer. No public function relies on checks by its caller.
+#![tactic(auto)]
+
 mod ethernet;
 mod ipv4;
 

@@ -36,7 +36,7 @@ const REPLY: u8 = 1;
 
 const WHOSE: u8 = 4;
 
-#[derive(Drop)]
+#[derive(Clone, Copy)]
 pub struct Outcome {
     // Whether the line names a verdict and whose answer it is: without them nothing is called.
     pub named: bool,
@@ -48,7 +48,7 @@ pub struct Outcome {
 }
 
 // A call's answer, and whether it is the line's.
-#[derive(Drop)]
+#[derive(Clone, Copy)]
 struct Checked {
     agrees: bool,
     guest: Guest,

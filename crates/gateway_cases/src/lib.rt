@@ -1,5 +1,7 @@
 // Lines that call the gateway: each has the room, the frame, and the verdict, the reply and the record
 // that the call has to leave. And lines that have a record made, with the answer and the record.
+#![tactic(auto)]
+
 mod calls;
 mod makings;
 mod pieces;

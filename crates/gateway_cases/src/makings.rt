@@ -30,7 +30,7 @@ const MADE: u8 = 24;
 
 const BAD_RECORD: u8 = 9;
 
-#[derive(Drop)]
+#[derive(Clone, Copy)]
 pub struct MakingOutcome {
     // Whether the line has its length and names an answer: without them nothing is called.
     pub named: bool,

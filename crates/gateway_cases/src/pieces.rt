@@ -19,14 +19,14 @@ const MACS: [u8; 12] = [
 ];
 
 // What is laid so far, and whether every piece was there whole and had room.
-#[derive(Drop)]
+#[derive(Clone, Copy)]
 pub struct Laid {
     pub len: usize,
     pub whole: bool,
 }
 
 // The bytes that a piece takes in the line, and those that it stands for.
-#[derive(Drop)]
+#[derive(Clone, Copy)]
 struct Piece {
     size: usize,
     len: usize,

@@ -1,4 +1,6 @@
 // Whether a network is good, test by test. Nothing relies on checks by its caller.
+#![tactic(auto)]
+
 ghost use Rattle.base.specs.Tells.{Tells};
 ghost use Rattle.good_network.specs.Good.{Good, Between};
 

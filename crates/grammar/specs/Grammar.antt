@@ -63,13 +63,13 @@ pub record ARP (s : List ℕ) : Type 0 where
 abbrev pub header_length_lem : (packet : List ℕ) → ℕ
 header_length_lem packet = (u8_at packet 0 % 16) * 4
 
--- "reserved bit, more_fragments_law and offset zero": the 16 bits from byte 6 on are 1 bit, don't-fragment, 1 bit and 13 bits
+-- "reserved bit, more-fragments and offset zero": the 16 bits from byte 6 on are 1 bit, don't-fragment, 1 bit and 13 bits
 pub record Unfragmented (packet : List ℕ) : Type 0 where
   pub reserved : u16_at packet 6 / 32768 ≡ 0
-  pub more_fragments_law : (u16_at packet 6 / 8192) % 2 ≡ 0
+  pub more_fragments : (u16_at packet 6 / 8192) % 2 ≡ 0
   pub offset : u16_at packet 6 % 8192 ≡ 0
 
--- "IPv4: version 4; header length 20 to 60; total length is the whole body and at least the header; reserved bit, more_fragments_law and offset zero; header sums right."
+-- "IPv4: version 4; header length 20 to 60; total length is the whole body and at least the header; reserved bit, more-fragments and offset zero; header sums right."
 pub record IPv4 (packet : List ℕ) : Type 0 where
   pub version : u8_at packet 0 / 16 ≡ 4
   pub least_header : 20 ≤ header_length_lem packet

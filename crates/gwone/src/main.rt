@@ -1,4 +1,6 @@
 // One frame from standard input: what the gateway answers to it, as text.
+#![tactic(auto)]
+
 mod answer;
 mod text;
 

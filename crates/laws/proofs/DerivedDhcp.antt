@@ -92,7 +92,7 @@ module _ (net : Network) (mac : List ℕ) (xid type : ℕ) (four : FourBytes net
       let t : u8_at frame 284 ≡ type = payload_byte_law p 250 ∙ ap (λ (s : List ℕ). get_or s 2 0) r.type_is in
       let from : u16_at (payload (body frame)) 0 ≡ 67 = rw p.payload_is in
       let to : u16_at (payload (body frame)) 2 ≡ 68 = rw p.payload_is in
-      let at : data_at frame ≡ 42 = omega (arith, p.payload_at_law) in
+      let at : data_at frame ≡ 42 = omega (arith, p.payload_at) in
       let stop : n ≡ 42 + length (drop 42 frame) = omega (arith, p.long, r.long, length_datagram source target reply_source reply_target m, ap length inner) in (
         (
           p.ethernet,

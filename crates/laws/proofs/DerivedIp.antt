@@ -25,7 +25,7 @@ pub record Packet (frame : List ℕ) (n proto : ℕ) (source target carried : Li
   pub ethernet_placed : laid 0 14 n ≡ ethernet_layer frame
   pub ip_placed : laid 14 34 n ≡ ip_layer frame
   pub protocol_is : protocol (body frame) ≡ proto
-  pub payload_at_law : payload_at_lem frame ≡ 34
+  pub payload_at : payload_at_lem frame ≡ 34
   pub payload_is : payload (body frame) ≡ carried
   pub behind : drop 34 frame ≡ carried
   pub pseudo_is : pseudo_header_lem (body frame) ≡ Rfc768.pseudo_header_lem source target proto (length carried)
@@ -35,7 +35,7 @@ pub record Packet (frame : List ℕ) (n proto : ℕ) (source target carried : Li
 pub payload_placed : {frame : List ℕ} {n proto : ℕ} {source target carried : List ℕ} → Packet frame n proto source target carried
     → (len mid : ℕ) → mid ≡ 34 + len → laid 34 mid n ≡ payload_layer len frame
 payload_placed {frame} {n} p len mid e =
-    let at : 34 ≡ payload_at_lem frame = sym p.payload_at_law in
+    let at : 34 ≡ payload_at_lem frame = sym p.payload_at in
     let middle : mid ≡ payload_at_lem frame + len = omega (arith, at) in
     let stop : n ≡ payload_at_lem frame + length (payload (body frame)) = omega (arith, at, p.long, ap length p.payload_is) in
     placed (payload_at_lem frame) len (payload (body frame)) 34 mid n at middle stop
@@ -75,7 +75,7 @@ module _ (mac source target carried : List ℕ) (id proto : ℕ) (six : length m
         ethernet_placed = placed 0 14 frame 0 14 n refl refl (omega arith);
         ip_placed = placed 14 (header_length_lem (body frame)) (body frame) 14 34 n refl (omega (arith, at_20)) (omega (arith, rest));
         protocol_is = p.protocol_is;
-        payload_at_law = omega (arith, at_20);
+        payload_at = omega (arith, at_20);
         payload_is = carried_is;
         behind = behind;
         pseudo_is = rw (carried_is, p.protocol_is, drop_14 mac source target carried id proto six four four', addresses);

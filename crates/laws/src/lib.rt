@@ -1,1 +1,2 @@
 // What holds of the parts together. This crate has no code: its theorems are in proofs/.
+#![tactic(auto)]

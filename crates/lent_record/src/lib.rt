@@ -1,4 +1,6 @@
 // The thin entry: the record is lent, and the new one is stored. Nothing relies on checks by its caller.
+#![tactic(auto)]
+
 ghost use Rattle.std.specs.Prelude.{length};
 ghost use Rattle.record.specs.Answer.{Meets};
 ghost use Rattle.rules.specs.Rules.{outcome};

@@ -2,13 +2,13 @@
 use record::Guest;
 
 // The lease time that the record is to have, in seconds.
-#[derive(Drop)]
+#[derive(Clone, Copy)]
 pub enum Lease {
     Named(u32),
     Unnamed,
 }
 
-#[derive(Drop)]
+#[derive(Clone, Copy)]
 pub enum Answer {
     Made,
     // 9: none is made.
@@ -16,14 +16,14 @@ pub enum Answer {
 }
 
 // The record beside the answer: a new one, or all zeros where none is made.
-#[derive(Drop)]
+#[derive(Clone, Copy)]
 pub struct Making {
     pub answer: Answer,
     pub guest: Guest,
 }
 
 // What C is told, and what stands then in the memory that it lent.
-#[derive(Drop)]
+#[derive(Clone, Copy)]
 pub struct Stored {
     pub number: u32,
     pub guest: Guest,

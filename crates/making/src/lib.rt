@@ -1,5 +1,7 @@
 // A guest's record is made here, by one call that looks at its network, for Rattle and for C. No function relies on checks
 // by its caller.
+#![tactic(auto)]
+
 mod answer;
 mod call;
 mod over;

@@ -1,5 +1,7 @@
 // The options of a guest's DHCP message, of any length: the walk over them to its message type. No
 // public function relies on checks by its caller.
+#![tactic(auto)]
+
 ghost use Rattle.std.specs.Prelude.{◌≡◌, ◌<◌};
 ghost use Rattle.options.specs.Found.{walked_as};
 ghost use Rattle.options.specs.Rfc2132.{walk};
@@ -7,7 +9,7 @@ ghost use Rattle.options.specs.Rfc2132.{walk};
 use wire::dhcp::{END, FIXED, MESSAGE_TYPE, PAD};
 
 // What the walk over the options comes to.
-#[derive(Drop)]
+#[derive(Clone, Copy)]
 pub enum Found {
     // The message type; 0 where the walk ends without one.
     MessageType(u8),

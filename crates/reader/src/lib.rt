@@ -1,5 +1,7 @@
 // The strict reader: it takes a frame exactly when document 01's grammar derives it, and reports the
 // derivation's parts. It relies on no check by its caller; the gateway does not use it.
+#![tactic(auto)]
+
 ghost use Rattle.std.specs.Prelude.{◌≡◌};
 ghost use Rattle.grammar.specs.Grammar.{body, protocol};
 ghost use Rattle.grammar.specs.Report.{Reads};

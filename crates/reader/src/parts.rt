@@ -3,14 +3,14 @@ ghost use Rattle.std.specs.Prelude.{◌≡◌};
 
 // A header runs from `header` to its payload, and the payload from `payload` up to, not including,
 // `stop`.
-#[derive(Drop)]
+#[derive(Clone, Copy)]
 pub struct Layer {
     pub header: usize,
     pub payload: usize,
     pub stop: usize,
 }
 
-#[derive(Drop)]
+#[derive(Clone, Copy)]
 pub enum Reading {
     // The payload is the ARP packet.
     Arp {

@@ -2,7 +2,7 @@
 use crate::guest::Guest;
 
 // Document 01's answers 0 to 7, in its order.
-#[derive(Drop)]
+#[derive(Clone, Copy)]
 pub enum Verdict {
     Drop,
     Reply(usize),
@@ -15,7 +15,7 @@ pub enum Verdict {
 }
 
 // What a call that may change the record answers: the record comes back beside the verdict.
-#[derive(Drop)]
+#[derive(Clone, Copy)]
 pub struct Answer {
     pub verdict: Verdict,
     pub guest: Guest,

@@ -8,7 +8,7 @@ use crate::network::Network;
 // Its MAC, the id of the next IPv4 frame built for it, its last DHCP xid, and its network, which no call changes. `host`
 // lends it to C, so its layout is C's.
 #[repr(C)]
-#[derive(Drop)]
+#[derive(Clone, Copy)]
 pub struct Guest {
     pub mac: [u8; 6],
     pub id: u16,

@@ -1,6 +1,8 @@
 // Replays stored vectors: calls of `sums`, `frames`, `tcp`, `options`, `dhcp_reply`, `slirp` and `making`
 // with the answers that others gave, one to a line of standard input (oracle/README.md has the form). It prints
 // how many of each kind ran and agreed.
+#![tactic(auto)]
+
 mod rows;
 
 use record::Guest;
@@ -27,7 +29,7 @@ fn main() {
 }
 
 // The count so far, and the record that the last gateway call left.
-#[derive(Drop)]
+#[derive(Clone, Copy)]
 struct Run {
     tally: Tally,
     guest: Guest,

@@ -4,14 +4,14 @@ use crate::{compared, spaces};
 use fragments::{State, Taken};
 
 // What is expected of a call, and how the store is lent to it.
-#[derive(Drop)]
+#[derive(Clone, Copy)]
 pub struct Wanted {
     pub release: bool,
     pub lent: u16,
     pub answer: u8,
 }
 
-#[derive(Drop)]
+#[derive(Clone, Copy)]
 pub struct Outcome {
     pub state: State,
     pub agrees: bool,

@@ -2,7 +2,7 @@
 use fragments::{Answer, Datagram, End, State};
 
 // A state as numbers; what it does not have is 0.
-#[derive(Drop)]
+#[derive(Clone, Copy)]
 struct Numbers {
     kind: u8,
     source: u32,

@@ -6,20 +6,20 @@ ghost use Rattle.std.specs.Prelude.{◌≤◌};
 use wire::bytes::{byte_at, u16be};
 
 // How many items there are, and how much of the pool they fill.
-#[derive(Drop)]
+#[derive(Clone, Copy)]
 pub struct Items {
     pub count: usize,
     pub used: usize,
 }
 
 // What comes of a line that has an item: false where it can't be read or there is no room.
-#[derive(Drop)]
+#[derive(Clone, Copy)]
 pub struct Added {
     pub items: Items,
     pub whole: bool,
 }
 
-#[derive(Drop)]
+#[derive(Clone, Copy)]
 struct Laid {
     used: usize,
     whole: bool,

@@ -10,7 +10,7 @@ use vectors::Tally;
 use wire::bytes::byte_at;
 
 // The count so far, and the train that is listed.
-#[derive(Drop)]
+#[derive(Clone, Copy)]
 pub struct Run {
     pub tally: Tally,
     pub origin: u8,

@@ -1,6 +1,8 @@
 // Replays trains of fragments through `fragments` and compares each call with stored answers, a line of
 // standard input at a time (lines.rt has the form). It prints how many replays of each origin agreed,
 // and how many calls by the answer that was expected.
+#![tactic(auto)]
+
 mod calls;
 mod compared;
 mod items;

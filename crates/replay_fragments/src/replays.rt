@@ -10,7 +10,7 @@ use vectors::Tally;
 use wire::bytes::{byte_at, u16be};
 
 // The calls counted so far, what the last one left, and whether all agreed and could be read.
-#[derive(Drop)]
+#[derive(Clone, Copy)]
 pub struct Replay {
     pub tally: Tally,
     pub state: State,

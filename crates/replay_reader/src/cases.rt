@@ -8,7 +8,7 @@ use vectors::SPOILED;
 use wire::bytes::{byte_at, u32be};
 
 // What comes of a line.
-#[derive(Drop)]
+#[derive(Clone, Copy)]
 pub enum Case {
     // A blank line or a comment.
     Blank,

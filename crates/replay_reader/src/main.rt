@@ -1,5 +1,7 @@
 // Compares what the strict reader reports with stored vectors, one to a line of standard input
 // (cases.rt has the form). It prints how many of each origin and of each kind ran and agreed.
+#![tactic(auto)]
+
 mod cases;
 mod expected;
 mod rows;

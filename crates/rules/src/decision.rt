@@ -14,7 +14,7 @@ use wire::{arp, dhcp, ethernet, icmp, ipv4, udp};
 
 // What is to be done with a frame. A start or a place is counted from the frame's first byte, but
 // for CutType's, which is counted from the DHCP data's.
-#[derive(Drop)]
+#[derive(Clone, Copy)]
 pub enum Decision {
     Drop,
     // A DHCP message gets no reply, and its xid is noted.

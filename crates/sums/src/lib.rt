@@ -4,6 +4,8 @@
 // end: RFC 1071, section 2, (B) "byte order independence" and (C) "parallel summation". Request 3/13: a long
 // input is folded on the way, so that no total leaves 64 bits, and every fold is a straight step. The plain sum,
 // two bytes a step, stands at the end.
+#![tactic(auto)]
+
 ghost use Rattle.std.specs.Prelude.{◌≡◌, ◌+◌, ◌*◌, ◌/◌, ◌%◌, ◌^◌, ◌<◌, ◌≤◌, length, drop};
 ghost use Rattle.sums.specs.Folding.{fold_to32, longest_piece, most_behind, most_folded, most_upper};
 ghost use Rattle.sums.specs.Rfc1071.{total, fold, checksum as Rfc1071·checksum};

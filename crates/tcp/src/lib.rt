@@ -1,5 +1,7 @@
 // TCP segments in their frames: who speaks to whom, and the builder. No public function relies on
 // checks by its caller.
+#![tactic(auto)]
+
 ghost use Rattle.std.specs.Prelude.{◌≡◌, ◌++◌, ◌+◌, ◌%◌, ◌≤◌, length};
 ghost use Rattle.record.specs.Answer.{Meets};
 ghost use Rattle.base.specs.Buffer.{put as Buffer·put};
@@ -18,7 +20,7 @@ use wire::udp::pseudo_header;
 use wire::{ethernet, ipv4};
 
 // Who speaks to whom; `dst_mac` is the guest's.
-#[derive(Drop)]
+#[derive(Clone, Copy)]
 pub struct Endpoints {
     pub dst_mac: [u8; 6],
     pub src_ip: [u8; 4],

@@ -1,5 +1,7 @@
 // What programs share that replay stored vectors, one to a line: a line's bytes, parts of them, room
 // for calls, payloads, records, and the tally of what agreed.
+#![tactic(auto)]
+
 mod lines;
 mod payload;
 mod records;

@@ -5,7 +5,7 @@ ghost use Rattle.vectors.specs.Lines.{Decoded, ReadInto, digit};
 
 use bytes::scan::find;
 
-#[derive(Drop)]
+#[derive(Clone, Copy)]
 pub struct Line {
     // How many bytes stand at the start of the line's buffer: none where the line is not whole.
     pub len: usize,
@@ -15,7 +15,7 @@ pub struct Line {
     pub whole: bool,
 }
 
-#[derive(Drop)]
+#[derive(Clone, Copy)]
 struct Read {
     len: usize,
     whole: bool,

@@ -6,7 +6,7 @@ const ROWS: usize = 32;
 
 const STDOUT: i32 = 1;
 
-#[derive(Drop)]
+#[derive(Clone, Copy)]
 pub struct Tally {
     pub right: [u64; 32],
     pub wrong: [u64; 32],

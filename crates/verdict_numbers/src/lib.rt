@@ -1,4 +1,6 @@
 // A verdict as C is told it: document 01's number, which is returned, and its values. Nothing relies on checks by its caller.
+#![tactic(auto)]
+
 ghost use Rattle.std.specs.Prelude.{[], ◌∷◌, ◌≡◌};
 ghost use Rattle.record.specs.Answer.{paper};
 ghost use Rattle.verdict_numbers.specs.Numbers.{padded};

@@ -1,0 +1,7 @@
+-- `added` meets its contract: two words have one carry at most.
+use Rattle.std.proofs.Common.{arith, rules}
+use Rattle.sums.proofs.Folding.{folded_once}
+use Rattle.sums.proofs.added.Goals as goal
+
+pub returns : goal.returns
+returns c = folded_once _ (omega arith)

@@ -1,0 +1,14 @@
+-- `mac_at` meets its contract: six bytes one by one, or zeros past the end.
+use mathlib.Core.Path.{sym, ◌∙◌}
+use mathlib.Core.List.{[], ◌∷◌}
+use Rattle.wire.proofs.Reading.{six_bytes, zeros_past_end}
+use borrow.Author.Rules.{rules}
+use Rattle.wire.proofs.bytes.mac_at.Goals as goal
+
+pub returns-then-buf-at : goal.returns-then-buf-at
+returns-then-buf-at c = sym (zeros_past_end c.args.buf.now 6 c.args.at c.if-buf-at.true)
+
+pub returns : goal.returns
+returns c =
+    (λ i. c.byte_at.ensures i ∷ c.byte_at-2.ensures i ∷ c.byte_at-3.ensures i ∷ c.byte_at-4.ensures i ∷ c.byte_at-5.ensures i ∷ c.byte_at-6.ensures i ∷ [])
+    ∙ sym (six_bytes c.args.buf.now c.args.at)
