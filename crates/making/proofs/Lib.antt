@@ -1,4 +1,4 @@
 pub mod Exactly
-pub mod Stored
+pub mod Lent
 pub mod Highest
 pub mod Worked
