@@ -11,9 +11,9 @@ use Rattle.dhcp_message.proofs.reply.put_reply.Goals as goal
 pub returns-then-out-lt-REPLY_LENGTH : goal.returns-then-out-lt-REPLY_LENGTH
 returns-then-out-lt-REPLY_LENGTH c =
     let four : FourBytes c.args.net = record {
-      gateway = ?;
-      guest = ?;
-      mask = ?;
+      gateway = search rules;
+      guest = search rules;
+      mask = search rules;
     } in
     let a = c.args in
     let six : length a.mac ≡ 6 = omega (arith, c.well_formed) in
@@ -23,9 +23,9 @@ returns-then-out-lt-REPLY_LENGTH c =
 pub returns : goal.returns
 returns c =
     let four : FourBytes c.args.net = record {
-      gateway = ?;
-      guest = ?;
-      mask = ?;
+      gateway = search rules;
+      guest = search rules;
+      mask = search rules;
     } in
     let a = c.args in
     let six : length a.mac ≡ 6 = omega (arith, c.well_formed) in
