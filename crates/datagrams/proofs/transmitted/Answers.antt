@@ -2,23 +2,19 @@
 use Prim.Native.Nat.{ℕ, zero, suc}
 use mathlib.Core.Path.{◌≡◌, refl}
 use Rattle.wire.specs.Rfc768.{transmitted}
-use Rattle.datagrams.proofs.transmitted.Statement.{statement}
-use Rattle.datagrams.proofs.transmitted.Tie as tie
+use Rattle.datagrams.proofs.transmitted.Goals as goal
 
 all_ones : (n : ℕ) → n ≡ 0 → 65535 ≡ transmitted n
 unfolding transmitted
 all_ones n e = rw e
-
-returns : tie.Need-returns
-returns c = all_ones c.before.args.computed c.if1.true
 
 other : (n : ℕ) → (n ≡ 0 → ⊥) → n ≡ transmitted n
 unfolding transmitted
 other zero h = absurd (h refl)
 other (suc n) h = refl
 
-returns-2 : tie.Need-returns-2
-returns-2 c = other c.before.args.computed c.if1.false
+pub returns-then-computed-eq0 : goal.returns-then-computed-eq0
+returns-then-computed-eq0 c = all_ones c.args.computed c.if-computed-eq0.true
 
-pub transmitted-spec : {M : Type 1} → statement M
-transmitted-spec = tie.close (tie.spec returns returns-2)
+pub returns : goal.returns
+returns c = other c.args.computed c.if-computed-eq0.false
