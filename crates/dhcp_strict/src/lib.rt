@@ -82,9 +82,9 @@ fn read_list(frame: &[u8], at: usize, seen: u8) -> u8
 // The same where the list starts with an item.
 #[cycle(read_item_read_list)]
 fn read_item(frame: &[u8], at: usize, seen: u8) -> u8
-    requires at_in_bounds { at < length frame.now }
-    requires frame_len_bound { length frame.now ≤ at + 1232 }
-    requires fact { u8_at frame.now at ≡ 255 → ⊥ }
+    requires inside { at < length frame.now }
+    requires within_frame { length frame.now ≤ at + 1232 }
+    requires not_end { u8_at frame.now at ≡ 255 → ⊥ }
     ensures { Listed frame.now at seen result }
 {
     let code = byte_at(frame, at);

@@ -164,7 +164,7 @@ with53 (option place code len) rest =
     elim (eqb code 53) [ true ↦ option place code len ∷ rest | false ↦ rest ]
 
 unfoldable pub options53 : ItemList → List Item
-options53 (END place zeros) = []
+options53 (END place _) = []
 options53 (item first rest) = with53 first (options53 rest)
 
 -- "Option 53 occurs once, length 1, value 1 to 8." Its value stands behind its code and its length.
