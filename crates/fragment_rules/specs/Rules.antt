@@ -1,9 +1,8 @@
 -- Document 02's rules of the store (request 4/13): the order of refusals, and what is to be stored.
-use Rattle.std.specs.Prelude.{ℕ, ◌+◌, ◌-◌, ◌*◌, ◌/◌, Bool, true, false, ◌&&◌, ◌||◌, not, cond, List, eqb, ltb, length}
+use Rattle.std.specs.Prelude.{ℕ, ◌-◌, ◌*◌, ◌/◌, Bool, true, false, ◌&&◌, ◌||◌, not, cond, List, eqb, ltb, length}
 use Rattle.bitmap.specs.Bitmap.{bit, blocks_of_lem, count}
 use Rattle.fragment_packets.specs.Packets.{packet_of, end_of}
 use Rattle.fragment_rules.specs.declared.answer.Answer.{Answer}
-use Rattle.fragment_rules.specs.declared.answer.Answer.TheVariants as Answer
 use Rattle.fragment_packets.specs.declared.packet.Datagram.{Datagram}
 use Rattle.fragment_rules.specs.declared.answer.End.{End}
 use Rattle.fragment_rules.specs.declared.answer.End.TheVariants.{Unknown, At}

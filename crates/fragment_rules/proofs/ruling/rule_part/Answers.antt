@@ -8,9 +8,7 @@ use Rattle.fragment_rules.specs.declared.answer.End.{End}
 use Rattle.fragment_rules.specs.declared.answer.State.{State}
 use Rattle.fragment_rules.specs.declared.ruling.Ruling.TheVariants.{Refuse, Write}
 use Rattle.fragment_packets.specs.declared.packet.Fragment.{Fragment}
-use borrow.Author.Rules.{rules}
-use Rattle.fragment_rules.proofs.ruling.rule_part.Statement.{statement}
-use Rattle.fragment_rules.proofs.ruling.rule_part.Tie as tie
+use Rattle.fragment_rules.proofs.ruling.rule_part.Goals as goal
 
 module _ (state : State) (f : Fragment) (there : ℕ → ℕ) where
   gets_11 : is_held state f.datagram ≡ true → Refuse Answer.Held ≡ part_ruling state there f
@@ -30,20 +28,14 @@ module _ (state : State) (f : Fragment) (there : ℕ → ℕ) where
   unfolding part_ruling
   is-written free apart right end e = simp (e, free, apart, right)
 
-returns : tie.Need-returns
-returns c = gets_11 _ _ _ (cc)
+pub returns-then-is_held : goal.returns-then-is_held
+returns-then-is_held c = gets_11 _ _ _ (cc)
 
-returns-2 : tie.Need-returns-2
-returns-2 c = gets-12 _ _ _ (cc) (cc)
+pub returns-then-has_block : goal.returns-then-has_block
+returns-then-has_block c = gets-12 _ _ _ (cc) (cc)
 
-returns-3 : tie.Need-returns-3
-returns-3 c = gets-13 _ _ _ (cc) (cc) (cc)
+pub returns-then-has_wrong_end : goal.returns-then-has_wrong_end
+returns-then-has_wrong_end c = gets-13 _ _ _ (cc) (cc) (cc)
 
-returns-4 : tie.Need-returns-4
-returns-4 c = is-written _ _ _ (cc) (cc) (cc) _ (cc)
-
-pub rule-part-spec : {M : Type 1} → statement M
-rule-part-spec =
-    tie.close
-    (tie.spec (λ c κs. search rules) (λ c κs. search rules) returns (λ c κs. search rules) returns-2
-    (λ c κs. search rules) returns-3 (λ c κs. search rules) returns-4)
+pub returns : goal.returns
+returns c = is-written _ _ _ (cc) (cc) (cc) _ (cc)
