@@ -5,9 +5,7 @@ use Rattle.fragment_packets.specs.Packets.{packet_of}
 use Rattle.fragment_packets.specs.declared.packet.Packet.{Packet}
 use Rattle.fragment_packets.specs.declared.packet.Packet.TheVariants.{Unfit, Whole, Part}
 use Rattle.fragment_rules.specs.declared.answer.Answer.{Answer}
-use Rattle.fragment_rules.specs.declared.answer.Answer.TheVariants as Answer
 use Rattle.fragments.specs.declared.answer.Site.{Site}
-use Rattle.fragments.specs.declared.answer.Site.TheVariants as Site
 use Rattle.fragment_rules.specs.declared.answer.State.{State}
 use Rattle.fragment_rules.specs.declared.answer.State.TheVariants.{Empty, Filling, Complete}
 

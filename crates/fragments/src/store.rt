@@ -29,9 +29,9 @@ pub fn take(state: State, frame: &[u8], bytes: &mut [u8], bits: &mut [u64]) -> T
 
 // The fragment's payload is copied to its place, and its blocks are marked.
 fn write(fragment: Fragment, end: End, frame: &[u8], bytes: &mut [u8], bits: &mut [u64]) -> Taken
-    requires length_in_bounds { fragment.start + fragment.length ≤ length frame.now }
-    requires fragment_bound { end_of fragment ≤ 65515 }
-    requires bytes_len { (length bytes.old ≡ 65515) × (length bits.old ≡ 128) }
+    requires in_frame { fragment.start + fragment.length ≤ length frame.now }
+    requires short { end_of fragment ≤ 65515 }
+    requires of_size { (length bytes.old ≡ 65515) × (length bits.old ≡ 128) }
     ensures settles { Settles fragment.datagram end (having (bit bits.old) (first_block fragment) (stop_block fragment)) result }
     ensures effect { Effect (Ruling.Write fragment end) frame.now bytes.old bits.old bytes.new bits.new }
 {
