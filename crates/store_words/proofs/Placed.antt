@@ -21,10 +21,8 @@ use Rattle.fragments.specs.Promises.{Takes}
 use Rattle.fragment_rules.specs.Rules.{of_size_lem, is_held, overlaps, wrong_end, known_end_lem, end_with_lem, ruling, packet_ruling, part_ruling}
 use Rattle.fragments.specs.Outcomes.{outcome_of, settled}
 use Rattle.fragment_rules.specs.declared.answer.Answer.{Answer}
-use Rattle.fragment_rules.specs.declared.answer.Answer.TheVariants as Answer
 use Rattle.fragment_rules.specs.declared.answer.End.{End}
 use Rattle.fragments.specs.declared.answer.Site.{Site}
-use Rattle.fragments.specs.declared.answer.Site.TheVariants as Site
 use Rattle.fragment_rules.specs.declared.answer.State.{State}
 use Rattle.fragments.specs.declared.answer.Taken.{Taken}
 use Rattle.fragment_rules.specs.declared.ruling.Ruling.TheVariants.{Refuse, Write}

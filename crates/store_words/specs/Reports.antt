@@ -7,7 +7,6 @@ use Rattle.fragments.specs.Answer.{Said, passed, stored, complete, released, ref
 use Rattle.fragment_packets.specs.Packets.{payload_length}
 use Rattle.fragment_rules.specs.declared.answer.Answer.{Answer}
 use Rattle.fragments.specs.declared.answer.Site.{Site}
-use Rattle.fragments.specs.declared.answer.Site.TheVariants as Site
 use Rattle.fragment_rules.specs.declared.answer.State.{State}
 use Rattle.fragments.specs.declared.answer.Taken.{Taken}
 use Rattle.store_words.specs.Words.{state_of, words_of}

@@ -8,9 +8,7 @@ use Rattle.base.specs.Bytes.{u16_at}
 use Rattle.wire.specs.Rfc791.{header_length_lem, total_length}
 use Rattle.wire.specs.Rfc894.{body}
 use Rattle.fragment_packets.specs.Packets.{payload_length}
-use borrow.Author.Rules.{rules}
-use Rattle.store_words.proofs.placing.in_frame.Statement.{statement}
-use Rattle.store_words.proofs.placing.in_frame.Tie as tie
+use Rattle.store_words.proofs.placing.in_frame.Goals as goal
 
 -- the field of the packet, counted in the frame
 total-in-frame : (frame : List ℕ) → u16_at frame 16 ≡ total_length (body frame)
@@ -21,14 +19,8 @@ stands : (frame : List ℕ) {header total length : ℕ} → header ≡ header_le
 unfolding payload_length
 stands frame h t l = ap₂ (λ (x y : ℕ). (14 + x) ∷ y ∷ []) h (l ∙ ap₂ (λ (x y : ℕ). x - y) (t ∙ total-in-frame frame) h)
 
-returns : tie.Need-returns
-returns c = stands c.before.before.before.before.args.frame.now c.before.before.ip_hlen_lem.ensures c.before.u16be.ensures (omega (arith, c.if1.true))
+pub returns-then-total-header : goal.returns-then-total-header
+returns-then-total-header c = stands c.args.frame.now c.ip_hlen-header.ensures c.u16be-total.ensures (omega (arith, c.if-total-header.true))
 
-returns-2 : tie.Need-returns-2
-returns-2 c = stands c.before.before.before.before.args.frame.now c.before.before.ip_hlen_lem.ensures c.before.u16be.ensures refl
-
-pub in-frame-spec : {M : Type 1} → statement M
-in-frame-spec =
-    tie.close
-    (tie.spec (λ c κs. search rules) (λ c κs. search rules) (λ c. search rules) (λ c. search rules) returns
-    returns-2)
+pub returns : goal.returns
+returns c = stands c.args.frame.now c.ip_hlen-header.ensures c.u16be-total.ensures refl
