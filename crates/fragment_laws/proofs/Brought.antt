@@ -1,5 +1,5 @@
 -- Nothing stale: each byte of a payload that is complete since the store was empty was brought by a fit fragment of that datagram. Call by call the store means what it says.
-use Prim.Native.Nat.{ℕ, ◌-◌, ◌*◌, ◌/◌, ◌≤◌, ◌<◌}
+use Prim.Native.Nat.{ℕ, ◌*◌, ◌/◌, ◌≤◌, ◌<◌}
 use mathlib.Core.Path.{◌≡◌, refl, ap, sym, subst, ◌∙◌}
 use mathlib.Core.Bool.{Bool, true, false, and-eq-true_iff, ◌||◌, cond}
 use mathlib.Core.Logic.{inl, inr}
@@ -23,7 +23,6 @@ use Rattle.fragment_rules.specs.declared.answer.State.{State}
 use Rattle.fragment_rules.specs.declared.answer.State.TheVariants.{Empty, Filling, Complete}
 use Rattle.fragment_packets.specs.declared.packet.Fragment.{Fragment}
 use Rattle.fragment_rules.specs.declared.ruling.Ruling.{Ruling}
-use Rattle.fragment_rules.specs.declared.ruling.Ruling.TheVariants as Ruling
 use Rattle.fragment_packets.proofs.Fitting.{at_block, part_is, ends_at_block}
 use Rattle.fragments.proofs.Ruled.{Stored, stored}
 use Rattle.fragment_laws.specs.Calls.{Store, Sized, Vacant, Call, after, Runs, asks, leaves}

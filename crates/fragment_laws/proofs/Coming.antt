@@ -19,7 +19,6 @@ use Rattle.fragment_rules.specs.declared.answer.End.{End}
 use Rattle.fragment_rules.specs.declared.answer.End.TheVariants.{Unknown, At}
 use Rattle.fragment_rules.specs.declared.answer.State.TheVariants.{Filling, Complete}
 use Rattle.fragment_rules.specs.declared.ruling.Ruling.{Ruling}
-use Rattle.fragment_rules.specs.declared.ruling.Ruling.TheVariants as Ruling
 use Rattle.fragment_packets.proofs.Fitting.{at_block, part_fits}
 use Rattle.fragment_laws.specs.Calls.{Store, Sized, Call, after}
 use Rattle.fragment_laws.specs.Trains.{All, Some, EachTwo, piece, Fit, Covers, Apart, lasts}

@@ -17,7 +17,6 @@ use Rattle.fragment_rules.specs.declared.answer.End.TheVariants.{Unknown, At}
 use Rattle.fragment_rules.specs.declared.answer.State.TheVariants.{Filling, Complete}
 use Rattle.fragment_packets.specs.declared.packet.Fragment.{Fragment}
 use Rattle.fragment_rules.specs.declared.ruling.Ruling.{Ruling}
-use Rattle.fragment_rules.specs.declared.ruling.Ruling.TheVariants as Ruling
 use Rattle.fragments.proofs.Ruled as Ruled
 use Rattle.fragment_laws.specs.Calls.{Store, Asked, taking, Call, after, Promised, Keeps}
 use Rattle.fragment_laws.specs.Trains.{PassesBy}

@@ -13,7 +13,6 @@ use Rattle.fragments.specs.Handing.{site_of_lem, stored_payload, payload_at_lem,
 use Rattle.fragment_rules.specs.Rules.{of_size_lem, is_held, part_ruling, packet_ruling, ruling}
 use Rattle.fragments.specs.Outcomes.{outcome_of}
 use Rattle.fragment_rules.specs.declared.answer.Answer.{Answer}
-use Rattle.fragment_rules.specs.declared.answer.Answer.TheVariants as Answer
 use Rattle.fragment_packets.specs.declared.packet.Datagram.{Datagram}
 use Rattle.fragment_rules.specs.declared.answer.State.{State}
 use Rattle.fragment_rules.specs.declared.answer.State.TheVariants.{Complete}
