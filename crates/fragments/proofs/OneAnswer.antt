@@ -1,4 +1,4 @@
--- The promises leave one answer: `saidFor` is one-to-one, and what a ruling does to a store is fixed byte by byte and bit by bit.
+-- The promises leave one answer: `said_for` is one-to-one, and what a ruling does to a store is fixed byte by byte and bit by bit.
 use Prim.Native.Nat.{ℕ}
 use mathlib.Core.Bool.{cond}
 use mathlib.Core.List.{List}

@@ -8,32 +8,32 @@ use Rattle.fragment_rules.specs.Rules.{same_datagram}
 use Rattle.fragment_rules.proofs.ruling.is_same.Goals as goal
 
 module _ (d e : Datagram) where
-  other-source : (d.source ≡ e.source → ⊥) → false ≡ same_datagram d e
+  other_source : (d.source ≡ e.source → ⊥) → false ≡ same_datagram d e
   unfolding same_datagram
-  other-source s = simp (ne_eqb d.source e.source s)
+  other_source s = simp (ne_eqb d.source e.source s)
 
-  other-target : d.source ≡ e.source → (d.target ≡ e.target → ⊥) → false ≡ same_datagram d e
+  other_target : d.source ≡ e.source → (d.target ≡ e.target → ⊥) → false ≡ same_datagram d e
   unfolding same_datagram
-  other-target s t = simp (eq-eqb d.source e.source s, ne_eqb d.target e.target t)
+  other_target s t = simp (eq-eqb d.source e.source s, ne_eqb d.target e.target t)
 
-  other-protocol : d.source ≡ e.source → d.target ≡ e.target → (d.protocol ≡ e.protocol → ⊥) → false ≡ same_datagram d e
+  other_protocol : d.source ≡ e.source → d.target ≡ e.target → (d.protocol ≡ e.protocol → ⊥) → false ≡ same_datagram d e
   unfolding same_datagram
-  other-protocol s t p = simp (eq-eqb d.source e.source s, eq-eqb d.target e.target t, ne_eqb d.protocol e.protocol p)
+  other_protocol s t p = simp (eq-eqb d.source e.source s, eq-eqb d.target e.target t, ne_eqb d.protocol e.protocol p)
 
-  by-id : d.source ≡ e.source → d.target ≡ e.target → d.protocol ≡ e.protocol → eqb d.id e.id ≡ same_datagram d e
+  by_id : d.source ≡ e.source → d.target ≡ e.target → d.protocol ≡ e.protocol → eqb d.id e.id ≡ same_datagram d e
   unfolding same_datagram
-  by-id s t p = simp (eq-eqb d.source e.source s, eq-eqb d.target e.target t, eq-eqb d.protocol e.protocol p)
+  by_id s t p = simp (eq-eqb d.source e.source s, eq-eqb d.target e.target t, eq-eqb d.protocol e.protocol p)
 
 pub returns-then-one-other : goal.returns-then-one-other
-returns-then-one-other c = other-source _ _ c.if-one-other.true
+returns-then-one-other c = other_source _ _ c.if-one-other.true
 
 pub returns-then-one-other-2 : goal.returns-then-one-other-2
-returns-then-one-other-2 c = other-target _ _ c.if-one-other.false c.if-one-other-2.true
+returns-then-one-other-2 c = other_target _ _ c.if-one-other.false c.if-one-other-2.true
 
 pub returns-then-one-other-3 : goal.returns-then-one-other-3
 returns-then-one-other-3 c =
-    other-protocol _ _ c.if-one-other.false c.if-one-other-2.false c.if-one-other-3.true
+    other_protocol _ _ c.if-one-other.false c.if-one-other-2.false c.if-one-other-3.true
 
 pub returns : goal.returns
 returns c =
-    by-id _ _ c.if-one-other.false c.if-one-other-2.false c.if-one-other-3.false
+    by_id _ _ c.if-one-other.false c.if-one-other-2.false c.if-one-other-3.false

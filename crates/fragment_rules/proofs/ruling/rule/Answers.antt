@@ -17,16 +17,16 @@ use Rattle.fragment_rules.specs.declared.ruling.Ruling.TheVariants.{Refuse}
 use Rattle.fragment_rules.proofs.ruling.rule.Goals as goal
 
 module _ (state : State) (frame : List ℕ) (bytes : ℕ) (bits : List ℕ) where
-  other-size : of_size_lem bytes (length bits) ≡ false → Refuse Answer.Unfit ≡ ruling state frame bytes bits
+  other_size : of_size_lem bytes (length bits) ≡ false → Refuse Answer.Unfit ≡ ruling state frame bytes bits
   unfolding ruling
-  other-size e = simp e
+  other_size e = simp e
 
-  by-packet : (size : Bool) → size ≡ of_size_lem bytes (length bits) → not size ≡ false → (p : Packet) → packet_of frame ≡ p → packet_ruling state (bit bits) p ≡ ruling state frame bytes bits
+  by_packet : (size : Bool) → size ≡ of_size_lem bytes (length bits) → not size ≡ false → (p : Packet) → packet_of frame ≡ p → packet_ruling state (bit bits) p ≡ ruling state frame bytes bits
   unfolding ruling
-  by-packet size e left p is = simp (is, sym e ∙ not-false size left)
+  by_packet size e left p is = simp (is, sym e ∙ not-false size left)
 
 pub returns-then-not-is_of_size : goal.returns-then-not-is_of_size
-returns-then-not-is_of_size c = other-size _ _ _ _ (sym c.is_of_size.ensures ∙ c.if-not-is_of_size.true)
+returns-then-not-is_of_size c = other_size _ _ _ _ (sym c.is_of_size.ensures ∙ c.if-not-is_of_size.true)
 
 pub rule_part-requires : goal.rule_part-requires
 rule_part-requires c = (part_fits _ _ (sym c.read-packet.ensures ∙ c.in-Part.is)).short
@@ -34,14 +34,14 @@ rule_part-requires c = (part_fits _ _ (sym c.read-packet.ensures ∙ c.in-Part.i
 pub returns-in-Unfit : goal.returns-in-Unfit
 unfolding packet_ruling
 returns-in-Unfit c =
-    by-packet _ _ _ _ _ c.is_of_size.ensures (ap not c.if-not-is_of_size.false) _ (sym c.read-packet.ensures ∙ c.in-Unfit.is)
+    by_packet _ _ _ _ _ c.is_of_size.ensures (ap not c.if-not-is_of_size.false) _ (sym c.read-packet.ensures ∙ c.in-Unfit.is)
 
 pub returns-in-Whole : goal.returns-in-Whole
 unfolding packet_ruling
 returns-in-Whole c =
-    by-packet _ _ _ _ _ c.is_of_size.ensures (ap not c.if-not-is_of_size.false) _ (sym c.read-packet.ensures ∙ c.in-Whole.is)
+    by_packet _ _ _ _ _ c.is_of_size.ensures (ap not c.if-not-is_of_size.false) _ (sym c.read-packet.ensures ∙ c.in-Whole.is)
 
 pub returns-in-Part : goal.returns-in-Part
 unfolding packet_ruling
 returns-in-Part c =
-    c.rule_part.ensures ∙ by-packet _ _ _ _ _ c.is_of_size.ensures (ap not c.if-not-is_of_size.false) _ (sym c.read-packet.ensures ∙ c.in-Part.is)
+    c.rule_part.ensures ∙ by_packet _ _ _ _ _ c.is_of_size.ensures (ap not c.if-not-is_of_size.false) _ (sym c.read-packet.ensures ∙ c.in-Part.is)

@@ -15,27 +15,27 @@ module _ (state : State) (f : Fragment) (there : ℕ → ℕ) where
   unfolding part_ruling
   gets_11 held = simp held
 
-  gets-12 : is_held state f.datagram ≡ false → overlaps f there ≡ true → Refuse Answer.Overlap ≡ part_ruling state there f
+  gets_12 : is_held state f.datagram ≡ false → overlaps f there ≡ true → Refuse Answer.Overlap ≡ part_ruling state there f
   unfolding part_ruling
-  gets-12 free over = simp (free, over)
+  gets_12 free over = simp (free, over)
 
-  gets-13 : is_held state f.datagram ≡ false → overlaps f there ≡ false → wrong_end f (known_end_lem state) there ≡ true → Refuse Answer.WrongEnd ≡ part_ruling state there f
+  gets_13 : is_held state f.datagram ≡ false → overlaps f there ≡ false → wrong_end f (known_end_lem state) there ≡ true → Refuse Answer.WrongEnd ≡ part_ruling state there f
   unfolding part_ruling
-  gets-13 free apart wrong = simp (free, apart, wrong)
+  gets_13 free apart wrong = simp (free, apart, wrong)
 
-  is-written : is_held state f.datagram ≡ false → overlaps f there ≡ false → wrong_end f (known_end_lem state) there ≡ false
+  is_written : is_held state f.datagram ≡ false → overlaps f there ≡ false → wrong_end f (known_end_lem state) there ≡ false
       → (end : End) → end ≡ end_with_lem f (known_end_lem state) → Write f end ≡ part_ruling state there f
   unfolding part_ruling
-  is-written free apart right end e = simp (e, free, apart, right)
+  is_written free apart right end e = simp (e, free, apart, right)
 
 pub returns-then-is_held : goal.returns-then-is_held
 returns-then-is_held c = gets_11 _ _ _ (cc)
 
 pub returns-then-has_block : goal.returns-then-has_block
-returns-then-has_block c = gets-12 _ _ _ (cc) (cc)
+returns-then-has_block c = gets_12 _ _ _ (cc) (cc)
 
 pub returns-then-has_wrong_end : goal.returns-then-has_wrong_end
-returns-then-has_wrong_end c = gets-13 _ _ _ (cc) (cc) (cc)
+returns-then-has_wrong_end c = gets_13 _ _ _ (cc) (cc) (cc)
 
 pub returns : goal.returns
-returns c = is-written _ _ _ (cc) (cc) (cc) _ (cc)
+returns c = is_written _ _ _ (cc) (cc) (cc) _ (cc)
