@@ -86,7 +86,7 @@ fn read_payload(frame: &[u8]) -> Reading
 // The same where the payload, which starts at `start`, is UDP, behind these two layers.
 fn read_datagram(frame: &[u8], start: usize, ethernet: Layer, ip: Layer) -> Reading
     requires framed { Framed frame.now }
-    requires frame_value { protocol (body frame.now) ≡ 17 }
+    requires is_udp { protocol (body frame.now) ≡ 17 }
     requires opened { Opened frame.now start ethernet ip }
     ensures { Reads frame.now (report_of result) }
 {

@@ -15,13 +15,13 @@ use Rattle.reader.proofs.read_payload.Goals as goal
 pub returns-then-not-is_icmp : goal.returns-then-not-is_icmp
 returns-then-not-is_icmp c =
     let frame : List ℕ = c.args.frame.now in
-    let framed : Framed frame = c.pre in
+    let framed : Framed frame = c.requires in
     no_icmp frame framed (sym c.ip_proto-protocol.ensures ∙ c.if-protocol-eq-ICMP.true) (rest_not ICMP 14 frame c.is_icmp.result c.is_icmp.ensures (ap not c.if-not-is_icmp.true))
 
 pub returns-then-protocol-eq-ICMP : goal.returns-then-protocol-eq-ICMP
 returns-then-protocol-eq-ICMP c =
     let frame : List ℕ = c.args.frame.now in
-    let framed : Framed frame = c.pre in
+    let framed : Framed frame = c.requires in
     let start : ℕ = 14 + c.header_length-start.result in
     let layers : Opened frame start c.laid-ethernet.result c.laid-ip.result = opened frame framed start _ _ (ap (λ (n : ℕ). 14 + n) c.header_length-start.ensures.0) c.laid-ethernet.ensures c.laid-ip.ensures in
     icmp-taken frame framed _ _ _ layers (rest_yes ICMP 14 frame c.is_icmp.result c.is_icmp.ensures (ap not c.if-not-is_icmp.false)) c.laid-message.result c.laid-message.ensures
@@ -29,14 +29,14 @@ returns-then-protocol-eq-ICMP c =
 pub returns-then-not-is_tcp : goal.returns-then-not-is_tcp
 returns-then-not-is_tcp c =
     let frame : List ℕ = c.args.frame.now in
-    let framed : Framed frame = c.pre in
+    let framed : Framed frame = c.requires in
     no_tcp frame framed (sym c.ip_proto-protocol.ensures ∙ c.if-protocol-eq-TCP.true)
     (tells_not c.is_tcp.result (tells-behind frame framed TCP c.is_tcp.result c.is_tcp.ensures) (ap not c.if-not-is_tcp.true))
 
 pub slice_bounds-header_length-count : goal.slice_bounds-header_length-count
 slice_bounds-header_length-count c =
     let frame : List ℕ = c.args.frame.now in
-    let framed : Framed frame = c.pre in
+    let framed : Framed frame = c.requires in
     let start : ℕ = 14 + c.header_length-start.result in
     let layers : Opened frame start c.laid-ethernet.result c.laid-ip.result = opened frame framed start _ _ (ap (λ (n : ℕ). 14 + n) c.header_length-start.ensures.0) c.laid-ethernet.ensures c.laid-ip.ensures in
     omega (arith, layers.starts, stop_is frame framed)
@@ -44,7 +44,7 @@ slice_bounds-header_length-count c =
 pub slice_bounds-header_length-start : goal.slice_bounds-header_length-start
 slice_bounds-header_length-start c =
     let frame : List ℕ = c.args.frame.now in
-    let framed : Framed frame = c.pre in
+    let framed : Framed frame = c.requires in
     let start : ℕ = 14 + c.header_length-start.result in
     let layers : Opened frame start c.laid-ethernet.result c.laid-ip.result = opened frame framed start _ _ (ap (λ (n : ℕ). 14 + n) c.header_length-start.ensures.0) c.laid-ethernet.ensures c.laid-ip.ensures in
     omega (arith, layers.starts, stop_is frame framed)
@@ -52,7 +52,7 @@ slice_bounds-header_length-start c =
 pub returns-then-protocol-eq-TCP : goal.returns-then-protocol-eq-TCP
 returns-then-protocol-eq-TCP c =
     let frame : List ℕ = c.args.frame.now in
-    let framed : Framed frame = c.pre in
+    let framed : Framed frame = c.requires in
     let start : ℕ = 14 + c.header_length-start.result in
     let layers : Opened frame start c.laid-ethernet.result c.laid-ip.result = opened frame framed start _ _ (ap (λ (n : ℕ). 14 + n) c.header_length-start.ensures.0) c.laid-ethernet.ensures c.laid-ip.ensures in
     let segment = payload_is frame framed start layers.starts in
@@ -63,7 +63,7 @@ returns-then-protocol-eq-TCP c =
 pub read_datagram-requires : goal.read_datagram-requires
 read_datagram-requires c =
     let frame : List ℕ = c.args.frame.now in
-    let framed : Framed frame = c.pre in
+    let framed : Framed frame = c.requires in
     let start : ℕ = 14 + c.header_length-start.result in
     let layers : Opened frame start c.laid-ethernet.result c.laid-ip.result = opened frame framed start _ _ (ap (λ (n : ℕ). 14 + n) c.header_length-start.ensures.0) c.laid-ethernet.ensures c.laid-ip.ensures in
     (framed, (sym c.ip_proto-protocol.ensures ∙ c.if-protocol-eq-UDP.true, layers))
@@ -71,7 +71,7 @@ read_datagram-requires c =
 pub returns : goal.returns
 returns c =
     let frame : List ℕ = c.args.frame.now in
-    let framed : Framed frame = c.pre in
+    let framed : Framed frame = c.requires in
     let start : ℕ = 14 + c.header_length-start.result in
     let layers : Opened frame start c.laid-ethernet.result c.laid-ip.result = opened frame framed start _ _ (ap (λ (n : ℕ). 14 + n) c.header_length-start.ensures.0) c.laid-ethernet.ensures c.laid-ip.ensures in
     other-taken frame framed _ _ _ layers
