@@ -66,7 +66,7 @@ read_datagram-requires c =
     let framed : Framed frame = c.requires in
     let start : ℕ = 14 + c.header_length-start.result in
     let layers : Opened frame start c.laid-ethernet.result c.laid-ip.result = opened frame framed start _ _ (ap (λ (n : ℕ). 14 + n) c.header_length-start.ensures.0) c.laid-ethernet.ensures c.laid-ip.ensures in
-    (framed, (sym c.ip_proto-protocol.ensures ∙ c.if-protocol-eq-UDP.true, layers))
+    record { framed = framed; is_udp = sym c.ip_proto-protocol.ensures ∙ c.if-protocol-eq-UDP.true; opened = layers }
 
 pub returns : goal.returns
 returns c =

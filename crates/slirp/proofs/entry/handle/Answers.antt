@@ -9,7 +9,9 @@ use borrow.Author.Rules.{rules}
 use Rattle.slirp.proofs.entry.handle.Goals as goal
 
 pub handle_icmp-requires : goal.handle_icmp-requires
-handle_icmp-requires c = request_inside _ _ _ (sym c.decide.ensures ∙ c.in-EchoReply.is)
+handle_icmp-requires c =
+    let inside = request_inside _ _ _ (sym c.decide.ensures ∙ c.in-EchoReply.is) in
+    record { start_in_bounds = inside.0; frame_len_bound = inside.1 }
 
 pub returns-in-Drop : goal.returns-in-Drop
 unfolding outcome_of paper

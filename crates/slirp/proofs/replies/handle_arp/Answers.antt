@@ -2,7 +2,7 @@
 use Prim.Native.Nat.{ℕ}
 use mathlib.Core.Path.{◌≡◌, refl, ap, ap₂, sym, ◌∙◌}
 use mathlib.Core.List.{List}
-use lib.ListN.{length-map}
+use lib.ListN.{length}
 use lib.Seq.{get_or-drop}
 use Rattle.arp_reply.proofs.Lengths.{length_reply_to}
 use Rattle.arp_reply.specs.Reply.{reply_to}
