@@ -1,0 +1,10 @@
+-- `builders::yavoledu_make_tcp_frame` meets its contract.
+use Prim.Native.Nat.{ℕ}
+use Rattle.tcp.specs.Rfc9293.{tcp_frame}
+use Rattle.host.proofs.Telling.{built_of}
+use borrow.Author.Rules.{rules}
+use Rattle.host.proofs.builders.yavoledu_make_tcp_frame.Goals as goal
+
+pub returns : goal.returns
+returns c =
+    built_of _ _ _ _ (λ (i : ℕ). tcp_frame i _ _ _ _ _) _ _ c.of_id.ensures c.make_tcp_frame-answer.ensures c.stored.ensures.0 c.stored.ensures.1
