@@ -3,4 +3,5 @@ pub mod Lists
 pub mod Front
 pub mod Telling
 pub mod Runs
+pub mod CountsOn
 pub mod Counting

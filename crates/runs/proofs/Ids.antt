@@ -4,7 +4,7 @@ use mathlib.Core.Bool.{Bool, true, false, ◌&&◌, not, cond}
 use mathlib.Core.Path.{◌≡◌, refl, ap, sym, ◌∙◌}
 use mathlib.Core.List.{List, [], ◌∷◌, ◌++◌}
 use native.Mathlib.Omega.{arith}
-use borrow.Author.Tests.{eq-eqb, ne_eqb}
+use borrow.Author.Tests.{ne_eqb}
 use lib.Dec.{eqb}
 use lib.ListN.{length, get_or}
 use Rattle.base.proofs.Counting.{Counted, none, one, Counter, counter_in_16_bits, counter_moved, stretch_counts_on, stretch_leaves, whole_counts_on, counts_anew}
@@ -22,14 +22,10 @@ use Rattle.runs.specs.Ids.{Typed, Run, record_behind, RunOfMany, ipv4_in, ipv4_b
 
 -- an IPv4 frame is found by its type, and an ARP reply isn't
 found : (built : List ℕ) → type_of built ≡ 0x0800 → ipv4_in built ≡ built ∷ []
-found built type =
-    let is_ipv4 : eqb (type_of built) 0x0800 ≡ true = eq-eqb (type_of built) 0x0800 type in
-    ap (λ (t : Bool). cond t (built ∷ []) []) is_ipv4
+found built type = rw type refl
 
 passed_over : (built : List ℕ) → type_of built ≡ 0x0806 → ipv4_in built ≡ []
-passed_over built type =
-    let no_ipv4 : eqb (type_of built) 0x0800 ≡ false = ne_eqb (type_of built) 0x0800 (λ z. omega (arith, z, type)) in
-    ap (λ (t : Bool). cond t (built ∷ []) []) no_ipv4
+passed_over built type = rw type refl
 
 module _ (asked : Asked) (id : ℕ) (o : Outcome) where
   -- what is to come of a call, as the counter sees it
@@ -41,7 +37,7 @@ module _ (asked : Asked) (id : ℕ) (o : Outcome) where
   -- how many frames it builds, as its number and what was asked say
   pub as_many : Comes asked id o → length (ipv4_in o.writing.image) ≡ frames_built asked (get_or o.writing.numbers 0 0)
   as_many (nothing other empty kept) =
-      ap (λ (l : List ℕ). length (ipv4_in l)) empty ∙ sym (ap (λ (t : Bool). cond (t && not (asks_by_arp asked)) 1 0) (ne_eqb (get_or o.writing.numbers 0 0) 1 other))
+      ap (λ (l : List ℕ). length (ipv4_in l)) empty ∙ sym (rw (ne_eqb (get_or o.writing.numbers 0 0) 1 other) refl)
   as_many (ipv4 e no-arp whole type carried moved) = ap length (found o.writing.image type) ∙ sym (rw (e, no-arp) refl)
   as_many (arp e yes-arp type kept) = ap length (passed_over o.writing.image type) ∙ sym (rw (e, yes-arp) refl)
 
