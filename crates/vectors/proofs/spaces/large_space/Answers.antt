@@ -1,11 +1,7 @@
 -- `spaces::large_space` has the length that its contract says: by the lemma, since a check that walks the whole array is slow.
 use Rattle.std.proofs.Common.{ℕ, sym}
 use lib.ListN.{length-replicate}
-use Rattle.vectors.proofs.spaces.large_space.Statement.{statement}
-use Rattle.vectors.proofs.spaces.large_space.Tie as tie
+use Rattle.vectors.proofs.spaces.large_space.Goals as goal
 
-returns : tie.Need-returns
+pub returns : goal.returns
 returns c = sym (length-replicate {A = ℕ} 2097152 0)
-
-pub large-space-spec : {M : Type 1} → statement M
-large-space-spec = tie.close (tie.spec returns)
