@@ -1,5 +1,5 @@
 -- Where a line starts, ends and has a comment: `decode` reads the characters that count.
-use Rattle.std.proofs.Common.{◌≡◌, ℕ, ◌+◌, ◌-◌, ◌<◌, ◌≤◌, min, true, List, length, take, drop, sym, refl, ◌∙◌, arith, drop_of_length-le, take-take}
+use Rattle.std.proofs.Common.{◌≡◌, ℕ, ◌+◌, ◌<◌, ◌≤◌, min, true, List, length, take, drop, sym, refl, ◌∙◌, arith, drop_of_length-le, take-take}
 use native.Mathlib.Nat.{min-eq_right, min-le_left, min-le_right, le-min}
 use Rattle.vectors.specs.Lines.{index_of, up_to, signs_at, next_line, digits, pairs, are_bytes, bytes_of, read_of, line_at, ReadInto, Decoded}
 use Rattle.vectors.specs.declared.lines.Read.{Read}

@@ -4,7 +4,6 @@ ghost use Rattle.vectors.specs.Count.{empty, counted_in};
 
 use crate::lines::find;
 use std::io;
-use std::io::Write;
 
 const ROWS: usize = 32;
 
@@ -65,9 +64,8 @@ fn print_row<R: Print>(rt: &R, name: &[u8], right: u64, wrong: u64) -> io::Resul
     if right == 0 && wrong == 0 {
         return Ok(());
     }
-    let mut out = io::writer(rt);
-    out.write_all(name)?;
-    out.write_all(b": ")?;
+    rt.write_all(name)?;
+    rt.write_all(b": ")?;
     print_counts(rt, right, wrong)
 }
 

@@ -1,5 +1,5 @@
 -- `lines::digit_of` meets its contract: each range of characters by its tests.
-use Rattle.std.proofs.Common.{arith, rules, le-leb}
+use Rattle.std.proofs.Common.{arith, le-leb}
 use borrow.Author.Tests.{lt-leb}
 use Rattle.vectors.specs.Lines.{digit}
 use Rattle.vectors.proofs.lines.digit_of.Goals as goal

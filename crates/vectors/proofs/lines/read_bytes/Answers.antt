@@ -1,6 +1,6 @@
 -- `lines::read_bytes` meets its contract: in each turn what was read and what is left make up the whole.
-use Rattle.std.proofs.Common.{◌-◌, length, refl, arith, rules}
-use Rattle.vectors.proofs.Reading.{Halfway, starts, past_space, wrong, full, first, second, whole, broken, refused, taken}
+use Rattle.std.proofs.Common.{refl, arith, rules}
+use Rattle.vectors.proofs.Reading.{starts, past_space, wrong, full, first, second, whole, broken, refused, taken}
 use Rattle.vectors.proofs.lines.read_bytes.Goals as goal
 
 pub loop-i-init : goal.loop-i-init

@@ -1,6 +1,5 @@
 -- `payload::lay_payload` meets its contract: each turn lays the byte at `i` and moves the rule on.
-use Rattle.std.proofs.Common.{◌≡◌, ℕ, ◌-◌, ◌<◌, ◌≤◌, length, get_or, ◌∙◌, arith, length-set, get_or-set_other, get_or-set_same, rules, below_more}
-use Rattle.vectors.specs.Payload.{ruled_at, payload_byte_lem}
+use Rattle.std.proofs.Common.{◌<◌, length, ◌∙◌, arith, length-set, get_or-set_other, get_or-set_same, below_more}
 use Rattle.vectors.proofs.payload.lay_payload.Goals as goal
 
 pub loop-i-smaller : goal.loop-i-smaller

@@ -1,5 +1,5 @@
 -- `slices::front` meets its contract: where there are fewer than `len` bytes, the first `len` are all of them.
-use Rattle.std.proofs.Common.{sym, arith, length-take, take_all, rules}
+use Rattle.std.proofs.Common.{sym, arith, length-take, take_all}
 use Rattle.vectors.proofs.slices.front.Goals as goal
 
 pub returns-then-s-len : goal.returns-then-s-len

@@ -1,5 +1,5 @@
 -- `slices::part` meets its contract, in each of its three cases.
-use Rattle.std.proofs.Common.{◌+◌, length, arith, rules, le-leb}
+use Rattle.std.proofs.Common.{◌+◌, length, arith, le-leb}
 use native.Mathlib.Nat.{add-sub_cancel_left}
 use borrow.Author.Tests.{lt-leb}
 use Rattle.vectors.specs.Slices.{whole_part}

@@ -1,5 +1,5 @@
 -- `slices::rest` meets its contract: past the end nothing is left.
-use Rattle.std.proofs.Common.{◌-◌, length, drop, sym, arith, length-drop, drop_of_length-le, take_all, rules}
+use Rattle.std.proofs.Common.{◌-◌, length, drop, sym, arith, length-drop, drop_of_length-le, take_all}
 use Rattle.vectors.proofs.slices.rest.Goals as goal
 
 pub returns-then-s-at : goal.returns-then-s-at

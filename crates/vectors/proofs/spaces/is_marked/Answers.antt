@@ -1,5 +1,5 @@
 -- `spaces::is_marked` meets its contract: each byte passed is the mark, and one that is not ends the loop.
-use Rattle.std.proofs.Common.{◌≡◌, ℕ, ◌-◌, ◌<◌, ◌≤◌, length, get_or, refl, arith, rules, below_more}
+use Rattle.std.proofs.Common.{◌≡◌, ℕ, refl, arith, rules, below_more}
 use Rattle.vectors.proofs.spaces.is_marked.Goals as goal
 
 pub returns-then-s-i : goal.returns-then-s-i

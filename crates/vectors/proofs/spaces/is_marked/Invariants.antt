@@ -1,5 +1,5 @@
 -- `spaces::is_marked` meets its contract: each byte passed is the mark, and one that is not ends the loop.
-use Rattle.std.proofs.Common.{◌≡◌, ℕ, ◌-◌, ◌<◌, ◌≤◌, length, get_or, refl, arith, rules, below_more}
+use Rattle.std.proofs.Common.{◌≡◌, ℕ, ◌-◌, ◌<◌, ◌≤◌, length, get_or}
 use Rattle.vectors.proofs.spaces.is_marked.Given as goal
 
 abbrev pub invariant-loop-i : goal.invariant-loop-i

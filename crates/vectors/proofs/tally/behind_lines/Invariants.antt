@@ -1,5 +1,5 @@
 -- `tally::behind_lines` is safe and ends, and stays within the text.
-use Rattle.std.proofs.Common.{◌-◌, ◌≤◌, length, rules}
+use Rattle.std.proofs.Common.{◌-◌, ◌≤◌, length}
 use Rattle.vectors.proofs.tally.behind_lines.Given as goal
 
 abbrev pub invariant-loop-at : goal.invariant-loop-at

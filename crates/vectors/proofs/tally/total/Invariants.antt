@@ -1,5 +1,5 @@
 -- `tally::total` is safe and ends: it counts the rows.
-use Rattle.std.proofs.Common.{◌≡◌, ◌-◌, ◌≤◌, length, rules}
+use Rattle.std.proofs.Common.{◌≡◌, ◌-◌, ◌≤◌, length}
 use Rattle.vectors.proofs.tally.total.Given as goal
 
 abbrev pub invariant-loop-row : goal.invariant-loop-row

@@ -1,5 +1,5 @@
 -- `Tally::counted` meets its contract.
-use Rattle.std.proofs.Common.{rules, le-ltb, lt-ltb}
+use Rattle.std.proofs.Common.{le-ltb, lt-ltb}
 use Rattle.vectors.specs.Count.{counted_in, one_more_lem}
 use Rattle.vectors.proofs.tally.Tally.counted.Goals as goal
 
