@@ -42,8 +42,7 @@ pub fn called(
     compared::keep_words(bits, &mut old_bits);
     let call = compared_call(state, wanted, frame, payload, bytes, bits);
     let after = call.state;
-    let kept = (*bytes == *old_bytes)
-        & is_kept(wanted.answer, state, after, bits, &old_bits);
+    let kept = (*bytes == *old_bytes) & is_kept(wanted.answer, state, after, bits, &old_bits);
     Outcome {
         state: after,
         agrees: call.agrees & (may_change(wanted.answer) | kept),
