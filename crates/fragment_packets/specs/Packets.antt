@@ -23,7 +23,7 @@ sound_header packet =
 unfoldable pub sound : (frame : List ℕ) → Bool
 sound frame = leb 34 (length frame) && (eqb (type_of frame) 0x0800 && sound_header (body frame))
 
--- section 3.2: a datagram is whole where more_fragments and offset are both zero
+-- section 3.2: a datagram is whole where more-fragments and offset are both zero
 unfoldable pub is_whole_lem : (packet : List ℕ) → Bool
 is_whole_lem packet = not (more_fragments_lem packet) && eqb (fragment_offset_lem packet) 0
 
