@@ -30,17 +30,17 @@ pub fn names() -> Vec<Name> {
     vec![
         name(
             "the record's MAC, another record's",
-            "recordMac",
+            "record_mac",
             &RECORD_MAC,
         ),
-        name("", "otherMac", &OTHER_MAC),
+        name("", "other_mac", &OTHER_MAC),
         name(
             "the gateway's, and the source of the frames",
-            "hostMac",
+            "host_mac",
             &GATEWAY_MAC,
         ),
-        name("", "senderMac", &SENDER_MAC),
-        name("the sender in an ARP request", "arpMac", &ARP_MAC),
+        name("", "sender_mac_lem", &SENDER_MAC),
+        name("the sender in an ARP request", "arp_mac", &ARP_MAC),
         name(
             "10.0.2.2 and 10.0.2.15, and an address elsewhere",
             "gateway",
@@ -50,19 +50,19 @@ pub fn names() -> Vec<Name> {
         name("", "other", &OTHER_IP),
         name(
             "the Ethernet head of an IPv4 frame from the guest, and of one to it",
-            "fromGuest",
+            "from_guest",
             &ethernet(0x0800),
         ),
         name(
             "",
-            "toGuest",
+            "to_guest",
             &[&SENDER_MAC[..], &GATEWAY_MAC, &[0x08, 0x00]].concat(),
         ),
         Name {
             arguments: vec![(0, "first"), (9, "protocol")],
             ..name(
                 "12 bytes of an IPv4 header, up to its addresses: the others are not looked at",
-                "ipHead",
+                "ip_head",
                 &packet_head(0x45, 1),
             )
         },
@@ -71,7 +71,7 @@ pub fn names() -> Vec<Name> {
             arguments: vec![(6, "high"), (7, "low")],
             ..name(
                 "8 bytes of an ARP message, with its operation",
-                "arpHead",
+                "arp_head",
                 &[0, 1, 8, 0, 6, 4, 0xff, 0xfe],
             )
         },

@@ -18,7 +18,7 @@ pub const STARTED: Before = Before {
     xid: 0x0102_0304,
     counter: 7,
 };
-pub const STARTED_TEXT: &str = "backend recordMac 0x01020304 7";
+pub const STARTED_TEXT: &str = "backend record_mac 0x01020304 7";
 
 #[derive(PartialEq)]
 pub struct Before {
@@ -131,15 +131,15 @@ impl Oracle {
             };
             let slice = format!("(slice {start} {bytes})");
             match (to, &askers[..], &relayed[..]) {
-                (To::Tcp, [], []) => format!("«handle_tcp» {slice}"),
+                (To::Tcp, [], []) => format!("handle_tcp {slice}"),
                 (To::Dns, [asker], []) => format!(
-                    "«handle_dns» {slice} {} {} {}",
+                    "handle_dns {slice} {} {} {}",
                     self.bytes(&asker.guest_mac),
                     self.bytes(&asker.src_ip),
                     asker.src_port
                 ),
                 (To::Relay, [], [relayed]) => format!(
-                    "«relay_datagram» {} {} {} {} {} {slice}",
+                    "relay_datagram {} {} {} {} {} {slice}",
                     self.bytes(&relayed.guest_mac),
                     self.bytes(&relayed.src_ip),
                     relayed.src_port,

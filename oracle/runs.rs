@@ -257,7 +257,7 @@ fn icmp_header_rows(table: &mut Table) {
     table.sends(&to_gateway(0x55, &message), "version 5");
     table.sends(&to_gateway(0xf5, &message), "version 15");
     table.close(
-        "icmpHeaders",
+        "icmp_headers",
         "`ip_hlen` and `ip_payload` before `handle_icmp`",
     );
 }
@@ -325,7 +325,7 @@ fn udp_rows(table: &mut Table) {
         &to(GATEWAY_IP, 1, 53),
         "53 of the gateway, another record",
     );
-    table.close("datagramsSent", "`handle_udp`");
+    table.close("datagrams_sent", "`handle_udp`");
 }
 
 fn udp_header_rows(table: &mut Table) {
@@ -362,7 +362,7 @@ fn udp_header_rows(table: &mut Table) {
     );
     table.sends(&with(0x55, &datagram), "version 5");
     table.close(
-        "udpHeaders",
+        "udp_headers",
         "`ip_hlen` and `ip_payload` before `handle_udp`",
     );
 }
@@ -428,7 +428,7 @@ fn dhcp_reply_rows(table: &mut Table) {
         &dhcp_frame(&other_fields),
         "of the fields only first byte, xid and cookie are looked at",
     );
-    table.close("dhcpReplies", "`send_dhcp_reply`");
+    table.close("dhcp_replies", "`send_dhcp_reply`");
 }
 
 fn type_rows(table: &mut Table) {
@@ -475,7 +475,7 @@ fn type_rows(table: &mut Table) {
     );
     let long = [&[61, 255][..], &[0; 255], &[53, 1, 6]].concat();
     table.types(&long, "an option of length 255 before");
-    table.close("messageTypes", "`message_type`");
+    table.close("message_types", "`message_type`");
 }
 
 fn sum_rows(table: &mut Table) {
@@ -528,7 +528,7 @@ fn frame_rows(table: &mut Table) {
     frames(255, ([0xff; 6], [0xff; 4], [0xff; 4]), 0xff, &[], "ones");
     frames(2, gateway, 1, &vec![0; 65_515], "the longest");
     frames(2, gateway, 1, &vec![0; 65_516], "one byte more");
-    table.close("ipFrames", "`make_ip_frame`");
+    table.close("ip_frames", "`make_ip_frame`");
 }
 
 fn datagram_rows(table: &mut Table) {
@@ -546,7 +546,7 @@ fn datagram_rows(table: &mut Table) {
         &vec![0; 65_528],
         "one byte more than a datagram holds",
     );
-    table.close("udpPayloads", "`make_udp_payload`");
+    table.close("udp_payloads", "`make_udp_payload`");
 }
 
 fn segment_rows(table: &mut Table) {
@@ -577,7 +577,7 @@ fn segment_rows(table: &mut Table) {
         "counter 65,535, which goes on at 0",
     );
     segments(0, (0xffff_ffff, 0), 0x04, &[], "counter 0");
-    table.close("tcpFrames", "`make_tcp_frame`");
+    table.close("tcp_frames", "`make_tcp_frame`");
 }
 
 fn reply_rows(table: &mut Table) {
@@ -597,5 +597,5 @@ fn reply_rows(table: &mut Table) {
         let row = table.oracle.replies(xid, mac, message_type);
         table.row(row, remark);
     }
-    table.close("dhcpMessages", "`build_reply`");
+    table.close("dhcp_messages", "`build_reply`");
 }

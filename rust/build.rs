@@ -52,8 +52,19 @@ fn handed_object(object: PathBuf) -> Result<PathBuf, String> {
 }
 
 fn built_object(target: &Target, folder: &Path) -> Result<PathBuf, String> {
-    for source in ["crates", "crates.txt", "tools"] {
+    for source in ["crates.txt", "tools"] {
         println!("cargo::rerun-if-changed=../{source}");
+    }
+    // Not the whole folder: rt writes into crates/*/out, and Cargo would build anew each time.
+    let crates =
+        fs::read_dir("../crates").map_err(|error| format!("../crates can't be read: {error}"))?;
+    for entry in crates.flatten() {
+        for part in ["src", "specs", "proofs"] {
+            let source = entry.path().join(part);
+            if source.exists() {
+                println!("cargo::rerun-if-changed={}", source.display());
+            }
+        }
     }
     let host = variable("HOST")?;
     if first_word(&host) != first_word(&target.triple) {

@@ -2,26 +2,22 @@
 import os
 import re
 
-from loops.library import Library, kit_folder
+from loops.library import Library
 from loops.page import PAGE, Page, code_in
 from loops.sources import words_of
 
+# What the name of a measure starts with in a proof.
+MEASURE = "decreases-"
+
 
 def proof_of(library, function):
-    """The file of a function's proof, and what stands before the names of its loops' measures there."""
+    """The file of a function's invariants and measures, and what stands before the names of its loops' measures there."""
     proofs = f"crates/{function.module.crate}/proofs"
     cycle = library.cycle(function)
     if not cycle:
-        return "/".join((proofs,) + function.place + ("Proof.antt",)), ""
-    common = common_place(cycle)
-    below = "/".join((proofs,) + common)
-    names = {other: other.place[len(common):] for other in cycle}
-    wanted = sorted("-".join(name) for name in names.values())
-    own = "·".join(names[function]).replace("_", "-")
-    folder = os.path.join(library.folder, below)
-    entries = os.listdir(folder) if os.path.isdir(folder) else []
-    found = [entry for entry in entries if entry.startswith("+") and sorted(entry[1:].split("+")) == wanted]
-    return f"{below}/{found[0] if found else '+' + '+'.join(wanted)}/Proof.antt", own
+        return "/".join((proofs,) + function.place + ("Invariants.antt",)), ""
+    below = "/".join((proofs,) + common_place(cycle))
+    return f"{below}/+{function.cycle_name or function.name}/Invariants.antt", function.name + "-"
 
 
 def common_place(cycle):
@@ -33,28 +29,50 @@ def common_place(cycle):
     return common
 
 
-def measure_in(folder, proof, name):
-    """What stands right of the `=` of a measure's definition, and None where there is no one such definition."""
+def measures_in(folder, proof):
+    """The measures that a file defines: by each name what stands right of the `=`, of every definition of it."""
     try:
         with open(os.path.join(folder, proof), encoding="utf-8") as opened:
             lines = opened.read().split("\n")
     except OSError:
-        return None
-    found = []
+        return {}
+    found = {}
     for at, line in enumerate(lines):
-        if line.split(" ")[0] != name or line.split()[1:2] == [":"]:
+        name = line.split(" ")[0]
+        if not name.startswith(MEASURE) or line.split()[1:2] == [":"]:
             continue
         end = at + 1
         while end < len(lines) and lines[end].startswith(" "):
             end += 1
         whole = " ".join(re.sub(r"(^|\s)--.*", "", part) for part in lines[at:end])
-        found.append(" ".join(re.split(r"\s=\s", whole + " ", maxsplit=1)[-1].split()))
-    return found[0] if len(found) == 1 else None
+        found.setdefault(name, []).append(" ".join(re.split(r"\s=\s", whole + " ", maxsplit=1)[-1].split()))
+    return found
+
+
+def measure_of_loop(library, function, loop):
+    """The file, the name and the measure of a loop. A proof names a loop by a variable of its own choice, so of the names that fit the one that
+    is there is taken; without a measure where none or several are, or where another loop of the function may have the same name."""
+    proof, before = proof_of(library, function)
+    wanted = {MEASURE + before + name for name in loop.names}
+    found = measures_in(library.folder, proof)
+    there = sorted(wanted & found.keys())
+    name = there[0] if len(there) == 1 else MEASURE + before + "loop"
+    of_others = {MEASURE + before + other for each in function.loops if each is not loop for other in each.names}
+    is_one = len(there) == 1 and len(found[name]) == 1 and name not in of_others
+    return proof, name, found[name][0] if is_one else None
+
+
+def measure_of_function(library, function):
+    """The same of a function that comes to call itself."""
+    proof, _ = proof_of(library, function)
+    name = MEASURE + function.name
+    found = measures_in(library.folder, proof).get(name, [])
+    return proof, name, found[0] if len(found) == 1 else None
 
 
 class Comparison:
-    def __init__(self, folder, kit):
-        self.library = Library(folder, kit)
+    def __init__(self, folder):
+        self.library = Library(folder)
         self.faults = list(self.library.faults)
         if self.faults:
             # Of what is not read whole it can't be told what is missing.
@@ -73,9 +91,8 @@ class Comparison:
     def compare_loops(self):
         wanted = {}
         for function in self.library.functions:
-            if self.library.is_part(function):
-                for loop in function.loops:
-                    wanted.setdefault((function.file, function.title, loop.words), []).append((function, loop))
+            for loop in function.loops + function.copies:
+                wanted.setdefault((function.file, function.title, loop.words), []).append((function, loop))
         rows = self.rows_of_loops()
         for key, loops in wanted.items():
             here = rows.get(key, [])
@@ -108,19 +125,16 @@ class Comparison:
             return f"the library has no file '{file}' with a function in it"
         if not named:
             return f"there is no function '{title}' in {file}"
-        if not self.library.is_part(named[0]):
-            return f"no function of the library calls '{title}' of {file}"
         return f"the function '{title}' in {file} has no loop '{head}'"
 
     def compare_measure(self, function, loop, row):
-        if function.is_of_the_kit:
-            return
-        proof, cycle_name = proof_of(self.library, function)
-        name = (cycle_name + "-" if cycle_name else "") + "μ-" + loop.name
-        self.compare_falls(proof, name, code_in(row.cells["falls"]), row, f"the loop '{loop.head}' of '{function.title}'", loop.line, function.file)
+        # What copies is of the standard library, and its measure too.
+        if loop not in function.copies:
+            self.compare_falls(measure_of_loop(self.library, function, loop), code_in(row.cells["falls"]), row,
+                               f"the loop '{loop.head}' of '{function.title}'", loop.line, function.file)
 
-    def compare_falls(self, proof, name, said, row, what, line, file):
-        proved = measure_in(self.library.folder, proof, name)
+    def compare_falls(self, measure, said, row, what, line, file):
+        proof, name, proved = measure
         if proved is None:
             self.fault(file, line, f"{what} has no one measure '{name}' in {proof}")
         elif said != [proved]:
@@ -148,8 +162,6 @@ class Comparison:
 
     def compare_measures(self, cycle, row):
         titles, falls = code_in(row.cells["functions"]), code_in(row.cells["falls"])
-        if cycle[0].is_of_the_kit:
-            return
         if len(titles) != len(falls):
             self.fault(PAGE, row.line, f"that {said_of(cycle)} needs a measure in backticks for each of {quoted(titles)}")
             return
@@ -159,8 +171,7 @@ class Comparison:
             return
         for title, said in zip(titles, falls):
             function = by_title[title]
-            proof, name = proof_of(self.library, function)
-            self.compare_falls(proof, f"μ-{name}", [said], row, f"the recursion of '{title}'", function.line, function.file)
+            self.compare_falls(measure_of_function(self.library, function), [said], row, f"the recursion of '{title}'", function.line, function.file)
 
     # -- Exported functions. --
 
@@ -200,7 +211,7 @@ def said_of(cycle):
 
 
 def check(folder):
-    comparison = Comparison(folder, kit_folder())
+    comparison = Comparison(folder)
     for file, line, what in sorted(set(comparison.faults)):
         print(f"{file}:{line}: {what}")
     if comparison.faults:

@@ -1,26 +1,28 @@
-"""All crates that the host is built on, and which function may come to call which."""
+"""All crates that what a host links is built on, and which function may come to call which."""
 import os
-import subprocess
 
-from loops.sources import Function, Module, Type, Unreadable, read_source
+from loops.sources import COPY, Function, Module, Type, Unreadable, read_source
 
-LIBRARY = "host"
-# Every crate can name it, so crates.txt does not.
-STANDARD = "std"
+# The crate that a host in C links, and the one whose functions it exports.
+LIBRARY = "host_c"
+EXPORTED = "host"
 
 # What the language itself brings: all of it is compiled to code without a loop.
 NUMBERS = {"u8", "u16", "u32", "u64", "usize", "i8", "i16", "i32", "i64", "isize", "f32", "f64"}
 FUNCTIONS_OF_NUMBERS = {"count_ones", "leading_zeros", "trailing_zeros", "to_bits", "from_bits"}
-METHODS_OF_THE_LANGUAGE = {"len"}
+METHODS_OF_THE_LANGUAGE = {"len", COPY}
+# Of the standard library the functions that are known, all without a loop and without a call of another: a call of any other is told.
+STANDARD = "std"
+FUNCTIONS_OF_STANDARD = {("num", f"wrapping_{what}_{number}") for what in ("add", "sub") for number in ("u8", "u16", "u32", "u64", "usize")}
 
 
 class Library:
-    """All crates that the host is built on, as they are read, and who calls whom."""
+    """All crates that what a host links is built on, as they are read, and who calls whom."""
 
-    def __init__(self, folder, kit):
-        self.folder, self.kit, self.faults, self.crates = folder, kit, [], {}
-        for name, source, is_of_the_kit in crates_of(folder, kit):
-            self.read_crate(name, source, is_of_the_kit)
+    def __init__(self, folder):
+        self.folder, self.faults, self.crates = folder, [], {}
+        for name in crates_of(folder):
+            self.read_crate(name, os.path.join(folder, "crates", name, "src"))
         if not self.faults:
             self.join_impls()
             self.functions = [function for root in self.crates.values() for function in root.all_functions()]
@@ -34,19 +36,19 @@ class Library:
     def fault(self, file, line, what):
         self.faults.append((file, line, what))
 
-    def read_crate(self, name, source, is_of_the_kit):
-        below = f"{name}/src" if is_of_the_kit else f"crates/{name}/src"
+    def read_crate(self, name, source):
+        below = f"crates/{name}/src"
         read = set()
-        self.crates[name] = self.read_module(source, below, name, (), None, is_of_the_kit, read)
+        self.crates[name] = self.read_module(source, below, name, (), None, read)
         for folder, _, files in os.walk(source):
             for file in files:
                 path = os.path.relpath(os.path.join(folder, file), source)
                 if path not in read:
                     self.fault(f"{below}/{path}", 1, "no 'mod' line leads to this file, so its loops are not read")
 
-    def read_module(self, source, below, crate, path, parent, is_of_the_kit, read):
+    def read_module(self, source, below, crate, path, parent, read):
         file = "/".join(path or ("lib",)) + ".rt"
-        module = Module(crate, path, f"{below}/{file}", parent, is_of_the_kit)
+        module = Module(crate, path, f"{below}/{file}", parent)
         read.add(file)
         try:
             with open(os.path.join(source, file), encoding="utf-8") as opened:
@@ -58,7 +60,7 @@ class Library:
         except Unreadable as unread:
             self.fault(module.file, unread.line, f"tools/check-loops can't read {unread.what}")
         for name in module.declared:
-            module.modules[name.text] = self.read_module(source, below, crate, path + (name.text,), module, is_of_the_kit, read)
+            module.modules[name.text] = self.read_module(source, below, crate, path + (name.text,), module, read)
         return module
 
     # -- Names. A name may be a type's or a module's, or a function's: `kind` says which is looked for. --
@@ -95,13 +97,18 @@ class Library:
             return module.parent
         if word in NUMBERS:
             return word
-        return self.at_path(module, (word,), "type", seen)
+        found = self.at_path(module, (word,), "type", seen)
+        return () if found is None and word == STANDARD else found
 
     def inside(self, place, name, kind, seen):
         if isinstance(place, Module):
             return place.parent if name == "super" else self.named(place, name, kind, seen)
         if isinstance(place, Type) and kind == "function":
             return place.functions.get(name) or ("constructor" if name in place.variants else None)
+        if isinstance(place, tuple):
+            # a path below the standard library, as far as it is followed
+            path = place + (name,)
+            return ("language" if path in FUNCTIONS_OF_STANDARD else None) if kind == "function" else path
         if place in NUMBERS and kind == "function" and name in FUNCTIONS_OF_NUMBERS:
             return "language"
         return None
@@ -155,13 +162,6 @@ class Library:
 
     # -- What the page has to have. --
 
-    def own_functions(self):
-        return [function for function in self.functions if not function.is_of_the_kit]
-
-    def is_part(self, function):
-        """Whether its loops are the library's: of the kit's functions those that one of ours reaches."""
-        return not function.is_of_the_kit or any(function in self.reached[own] for own in self.own_functions())
-
     def cycle(self, function):
         """The functions that it calls and that call it, by any way, itself among them; empty where it never comes back."""
         return [other for other in self.functions if other in self.reached[function] and function in self.reached[other]]
@@ -170,12 +170,13 @@ class Library:
         found = []
         for function in self.functions:
             cycle = self.cycle(function)
-            if cycle and cycle[0] is function and self.is_part(function):
+            if cycle and cycle[0] is function:
                 found.append(cycle)
         return found
 
     def exported(self):
-        return [function for function in self.functions if function.is_exported]
+        """The functions that C can call: those of the crate that it links."""
+        return [function for function in self.functions if function.is_exported and function.module.crate == LIBRARY]
 
 
 def own_item(module, name, kind):
@@ -203,27 +204,16 @@ def lines_of_crates(path):
     """Of a list of crates: each name and what it is built on."""
     with open(path, encoding="utf-8") as opened:
         lines = [line.split("#")[0].strip() for line in opened]
-    return {line.split(":")[0].strip(): line.split(":")[1].split() for line in lines if line}
+    # Behind the name may stand what is made of the crate, as `staticlib`.
+    return {line.split(":")[0].split()[0]: line.split(":")[1].split() for line in lines if line}
 
 
-def crates_of(folder, kit):
-    """The crates that the library is built on: a name, the folder of its sources, and whether it is of the kit."""
+def crates_of(folder):
+    """The names of the crates that the library is built on. All are of this repository: of the kit's libraries just the standard one is used."""
     ours = lines_of_crates(os.path.join(folder, "crates.txt"))
-    of_the_kit = lines_of_crates(os.path.join(kit, "libs", "libs.txt"))
-    names, found = [LIBRARY, STANDARD], []
+    names = [LIBRARY]
     for name in names:
-        built_on = ours.get(name, of_the_kit.get(name))
-        if built_on is None:
-            raise SystemExit(f"crates.txt: neither this list nor the kit has a line for the crate '{name}'")
-        names += [other for other in built_on if other not in names]
-        below = os.path.join(folder, "crates") if name in ours else os.path.join(kit, "libs")
-        found.append((name, os.path.join(below, name, "src"), name not in ours))
-    return found
-
-
-def kit_folder():
-    try:
-        said = subprocess.run(["rt", "doc"], capture_output=True, text=True, check=True).stdout
-    except (OSError, subprocess.CalledProcessError):
-        raise SystemExit("tools/check-loops: rt, the command of Rattle's kit, is missing") from None
-    return os.path.dirname(os.path.dirname(said.strip()))
+        if name not in ours:
+            raise SystemExit(f"crates.txt: this list has no line for the crate '{name}'")
+        names += [other for other in ours[name] if other not in names]
+    return names

@@ -8,8 +8,8 @@ import tempfile
 from collections import namedtuple
 from concurrent.futures import ThreadPoolExecutor
 
-from loops.comparison import Comparison, check, measure_in, proof_of, quoted
-from loops.library import LIBRARY, kit_folder
+from loops.comparison import Comparison, check, measure_of_function, measure_of_loop, quoted
+from loops.library import EXPORTED, LIBRARY
 from loops.page import PAGE, code_in
 
 SCRIPT = os.path.join(os.path.dirname(os.path.dirname(os.path.abspath(__file__))), "check-loops")
@@ -100,8 +100,8 @@ def line_in(function, library, code, word):
 
 def new_loops(library):
     """A new loop in a function, written in many ways."""
-    victim = first((f for f in library.own_functions() if not f.loops and not library.cycle(f)), "function without a loop")
-    looping = first((f for f in library.own_functions() if f.loops), "function with a loop")
+    victim = first((f for f in library.functions if not f.loops and not library.cycle(f)), "function without a loop")
+    looping = first((f for f in library.functions if f.loops), "function with a loop")
     ways = [
         ("while", victim, "\n    while i < 7 {\n        i += 1;\n    }", "while i < 7"),
         ("loop", victim, "\n    loop {\n        break;\n    }", "loop"),
@@ -135,7 +135,7 @@ def new_loops(library):
 def new_places(library):
     """A new loop in a place of its own: a function, a method, a module."""
     root = library.crates[LIBRARY].file
-    new = "\nfn newly_added(n: usize) -> usize\n    ensures { λ r. ⌜ r ≡ n ⌝ }\n{\n    while n < 7 {}\n    n\n}\n"
+    new = "\nfn newly_added(n: usize) -> usize\n    ensures { result ≡ n }\n{\n    while n < 7 {}\n    n\n}\n"
     said = "the loop 'while n < 7' of 'newly_added' is not in"
     yield Case("new loop: in a new function", lambda tree: tree.append(root, new), said)
     yield Case("new loop: in a method", lambda tree: tree.append(root, "\nstruct New { n: usize }\n\nimpl New {" + new + "}\n"),
@@ -152,18 +152,15 @@ def new_places(library):
 
 def changed_loops(library):
     """Each loop of ours with another head, and each measure of ours with another number."""
-    for function in library.own_functions():
+    for function in library.functions:
         for loop in function.loops:
-            proof, cycle_name = proof_of(library, function)
-            name = (cycle_name + "-" if cycle_name else "") + "μ-" + loop.name
             said = f"the loop '{loop.head}' of '{function.title}'"
             for other in other_heads(loop.head):
                 yield Case(f"another head: {said}", change_head(function, loop, other), f"the loop '{other}' of '{function.title}' is not in")
-            yield from changed_measures(library, proof, name, said)
+            yield from changed_measures(*measure_of_loop(library, function, loop), said)
     for cycle in library.cycles():
         for function in cycle:
-            proof, name = proof_of(library, function)
-            yield from changed_measures(library, proof, f"μ-{name}", f"the recursion of '{function.title}'")
+            yield from changed_measures(*measure_of_function(library, function), f"the recursion of '{function.title}'")
 
 
 def other_heads(head):
@@ -180,15 +177,15 @@ def change_head(function, loop, other):
     return edit
 
 
-def changed_measures(library, proof, name, said):
-    measure = measure_in(library.folder, proof, name)
-
+def changed_measures(proof, name, measure, said):
     def change(pattern, new):
         return lambda tree: tree.write(proof, re.sub(pattern, new, tree.read(proof), count=1, flags=re.M))
 
     defined = rf"^({re.escape(name)} (?!:)[^=\n]*=)"
     yield Case(f"another measure in the proof: {said}", change(defined, r"\1 1 +"), f"for {said} the number that falls is '1 + {measure}'")
-    yield Case(f"no measure in the proof: {said}", change(defined, r"-- \1"), f"{said} has no one measure '{name}'")
+    yield Case(f"no measure in the proof: {said}", change(defined, r"-- \1"), f"{said} has no one measure '")
+    yield Case(f"two measures in the proof: {said}", change(defined, rf"{name} l = 1\n\1"), f"{said} has no one measure '{name}'")
+    yield Case(f"no proof: {said}", lambda tree: tree.write(proof, None), f"{said} has no one measure '")
 
 
 def changed_page(page):
@@ -229,7 +226,7 @@ def with_cell(row, column, cell):
 
 def new_recursions(library):
     """Calls that come back: to the function itself, over modules, over crates, over methods, over other names."""
-    own = [function for function in library.own_functions() if not library.cycle(function)]
+    own = [function for function in library.functions if not library.cycle(function)]
     plain = first((f for f in own if not f.owner), "function outside of types")
     method = first((f for f in own if f.takes_self), "method")
     calls = [(f, g) for f in own for g in sorted(f.callees, key=path_to) if g in own]
@@ -267,21 +264,36 @@ def new_recursions(library):
 
 
 def new_calls(library):
-    """A new exported function, and calls of the kit's loops."""
+    """New exported functions, and calls of the standard library."""
     root = library.crates[LIBRARY].file
-    new = '\n#[no_mangle]\npub extern "C" fn newly_exported(n: u32) -> u32 {\n    n\n}\n'
-    yield Case("new exported function", lambda tree: tree.append(root, new), "the exported function 'newly_exported' is not under 'Whole calls'")
-    victim = first((f for f in library.own_functions() if f.is_exported), "exported function")
-    kits = [f for f in library.functions if f.is_of_the_kit and f.loops and not library.is_part(f)]
-    for function in [first(iter(kits), "loop of the kit that no function calls")] + kits[1:]:
-        head = function.loops[0].head
-        yield Case(f"call of the kit's {path_to(function)}", into(victim, f"\n    {path_to(function)}(x);"),
-                   f"{function.file}:{function.loops[0].line}: the loop '{head}' of '{function.title}' is not in {PAGE}")
+    body = '(n: u32) -> u32 {\n    n\n}\n'
+    for title, head in (("with both words", '#[unsafe(no_mangle)]\npub extern "C" fn'), ("by its name alone", "#[unsafe(no_mangle)]\npub fn"),
+                        ("without its name", 'pub extern "C" fn')):
+        yield Case(f"new exported function {title}", lambda tree, head=head: tree.append(root, f"\n{head} newly_exported{body}"),
+                   "the exported function 'newly_exported' is not under 'Whole calls'")
+    victim = first((f for f in library.exported()), "exported function")
+    inner = first((f for f in library.functions if f.is_exported and f.module.crate == EXPORTED), "exported function below")
+    copying = first((f for f in library.functions if f.copies), "function that copies")
+    for function in (victim, inner):
+        yield Case(f"new copy in {path_to(function)}", into(function, "\n    a.copy_from_slice(b);"),
+                   f"the loop 'copy_from_slice' of '{function.title}' is not in {PAGE}")
+    yield Case("a second copy beside one", into(copying, "\n    a.copy_from_slice(b);"),
+               f"the loop 'copy_from_slice' of '{copying.title}' is not in {PAGE}")
+    yield Case("no copy any more", lambda tree: tree.replace(copying.file, ".copy_from_slice(", ".len("),
+               f"the function '{copying.title}' in {copying.file} has no loop 'copy_from_slice'")
+    for code in ("std::mem::swap(x, y)", "std::num::checked_add_u8(x, y)", "std::wrapping_add_u8(x, y)", "core::num::wrapping_add_u8(x, y)",
+                 "x.fill(3)", "x.iter()", "x.clone()", "x.sort()"):
+        word = code[:code.index("(")]
+        name = "." + word.split(".")[1] if "." in word else word
+        yield Case(f"call of the standard library: {code}", into(inner, f"\n    {code};"), f"the call '{name}(..)' in '{inner.title}' leads to no function")
+    yield Case("a function of the standard library under another name", lambda tree: (
+        tree.append(inner.file, "\nuse std::mem::swap as swapped;\n"), tree.put_into(inner, "\n    swapped(x, y);")),
+        f"the call 'swapped(..)' in '{inner.title}' leads to no function")
 
 
 def unread_things(library):
     """What this script can't read."""
-    victim = first((f for f in library.own_functions() if not f.loops and not f.owner), "function without a loop")
+    victim = first((f for f in library.functions if not f.loops and not f.owner), "function without a loop")
     root = library.crates[LIBRARY].file
     for title, code, said in [
         ("a call of nothing known", "\n    nowhere_to_be(3);", "the call 'nowhere_to_be(..)' in"),
@@ -306,9 +318,11 @@ def unread_things(library):
         ("a module in braces", "\nmod m { fn f() { while true {} } }\n", "can't read '{' where ';' was to be"),
         ("all names of a module", "\nuse base::*;\n", "can't read '*' where a name was to be"),
         ("an attribute", "\n#[path = \"x.rt\"]\nmod m;\n", "can't read an attribute"),
+        ("another unsafe attribute", "\n#[unsafe(naked)]\nfn f() {}\n", "can't read an attribute"),
+        ("a derive that may have loops", "\n#[derive(Clone, Copy, PartialEq)]\nstruct New { n: [u8; 7] }\n", "can't read an attribute"),
         ("a function of C", '\nextern "C" {\n    fn f();\n}\n', "can't read '{' where 'fn' was to be"),
         ("a pointer to a function", "\nfn f(g: fn(u8) -> u8) {}\n", "can't read 'fn' in the parameters of 'f'"),
-        ("an attribute of the whole file", "\n#![allow(x)]\n", "can't read '!' where a bracket was to be"),
+        ("an attribute of the whole file behind an item", "\n#![tactic(auto)]\n", "can't read '!' where a bracket was to be"),
         ("a trait's functions", "\nimpl A for B { fn f() { while true {} } }\n", "can't read 'for' in the head of an 'impl'"),
         ("a contract that does not end", "\nfn f()\n    ensures { λ r. { }\n", "can't read a contract that does not end"),
         ("braces in comments of two contracts",
@@ -318,20 +332,22 @@ def unread_things(library):
         ("a module without a file", "\nmod not_there;\n", "there is no such file"),
     ]:
         yield Case(f"unread: {title}", lambda tree, code=code: tree.append(root, code), said)
+    yield Case("unread: another attribute of the whole file", lambda tree: tree.write(root, "#![allow(x)]\n" + tree.read(root)), "can't read an attribute")
 
 
 def trees_without_fault(library, page):
     """Words that look like loops or calls, and other blanks: all of these pass."""
-    victim = first((f for f in library.own_functions() if not f.loops), "function without a loop")
-    looping = first((f for f in library.own_functions() if f.loops and " " in f.loops[0].head), "loop with a blank in its head")
+    victim = first((f for f in library.functions if not f.loops), "function without a loop")
+    looping = first((f for f in library.functions if f.loops and " " in f.loops[0].head), "loop with a blank in its head")
     root = library.crates[LIBRARY].file
     yield Case("the tree as it is", lambda tree: None, None)
     yield Case("words in comments", into(victim, "\n    // while i < 7 { f(3) }\n    /* for x in 0..7 { /* loop { */ } */\n    /// loop {}"), None)
     yield Case("words in texts", into(victim, '\n    let t = b"while i < 7 { f(3) } \\" loop {";\n    let u = br#"for x in 0..7 {"#;'), None)
     yield Case("words in names", into(victim, "\n    let for_guest = while_x + loop2 + fore + awhile + x.loop_count;"), None)
-    contract = "\n    requires { ⌜ while loop { for' } f(3) ⌝ }\n    ensures named { λ r. ⌜ ⟦newly(n)⟧ ≡ loop ⌝ }\n"
+    contract = "\n    requires { while loop { for' } f(3) }\n    ensures named { «newly».now' ≡ loop }\n"
     yield Case("words in a contract", lambda tree: tree.append(root, "\nfn newly(n: u8) -> u8" + contract + "{\n    n\n}\n"), None)
-    yield Case("words in a 'ghost use'", lambda tree: tree.append(root, "\nghost use lib.While.{while, loop, for'};\n"), None)
+    yield Case("words in a 'ghost use'", lambda tree: tree.append(root, "\nghost use Rattle.std.specs.Prelude.{while, loop, for'};\n"), None)
+    yield Case("functions that wrap", into(victim, "\n    std::num::wrapping_add_u8(3, 4);\n    std::num::wrapping_sub_u64(3, 4);"), None)
     yield Case("a bracket that opens no call", into(victim, "\n    if (a) == (b) {}\n    (c) + match (d) { (e) => return (f), };"), None)
     head = looping.loops[0].head
     yield Case("a head over several lines", change_head(looping, looping.loops[0], head.replace(" ", " // at\n            ")), None)
@@ -361,7 +377,7 @@ def outcomes(cases, root):
 
 
 def self_test(root):
-    comparison = Comparison(root, kit_folder())
+    comparison = Comparison(root)
     if comparison.faults:
         print("self-test: the tree itself has faults, so none that is put into it can be told from them:")
         return check(root)

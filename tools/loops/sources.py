@@ -1,6 +1,6 @@
 """A source of Rattle, read: what its modules declare, the loops of each function and its calls. What can't be read is told."""
 import re
-from collections import Counter, namedtuple
+from collections import namedtuple
 
 LOOP_WORDS = ("while", "loop", "for")
 # Words that may stand before a bracket that opens no call.
@@ -10,7 +10,12 @@ WORDS_UNREAD_IN_BODIES = {"async", "dyn", "enum", "extern", "fn", "ghost", "impl
                           "trait", "type", "unsafe", "use", "yield"}
 WORDS_UNREAD_IN_TYPES = {"dyn", "fn", "ghost", "impl", "unsafe"} | set(LOOP_WORDS)
 WORDS_UNREAD_IN_HEADS = {"else", "if", "match"} | set(LOOP_WORDS)
-ATTRIBUTES = {"no_mangle", "repr", "inline"}
+ATTRIBUTES = {"repr", "inline"}
+# Others, each just as it stands here: what they derive has no loop. Of a whole file one is known.
+WHOLE_ATTRIBUTES = {"unsafe(no_mangle)", "derive(Clone,Copy)"}
+ATTRIBUTE_OF_A_FILE = "tactic(auto)"
+# A method of the standard library that goes over all bytes it is handed: it has no loop in its text, and is counted as one.
+COPY = "copy_from_slice"
 
 
 class Unreadable(Exception):
@@ -103,7 +108,7 @@ def words_of(text):
 
 # ---- What a source declares ----
 
-Loop = namedtuple("Loop", "head words name line start end")
+Loop = namedtuple("Loop", "head words names line start end")
 Call = namedtuple("Call", "path is_method line")
 
 
@@ -112,16 +117,14 @@ class Function:
         self.module, self.owner, self.name, self.line = module, owner, name, line
         self.type = None
         self.is_exported = self.takes_self = False
-        self.loops, self.calls, self.callees = [], [], set()
+        # Its loops, and each call of a copy, which is listed as a loop is; the name of the cycle that it says it is in.
+        self.loops, self.copies, self.calls, self.callees = [], [], [], set()
+        self.cycle_name = None
         self.body_start = 0
 
     @property
     def file(self):
         return self.module.file
-
-    @property
-    def is_of_the_kit(self):
-        return self.module.is_of_the_kit
 
     @property
     def title(self):
@@ -141,8 +144,8 @@ class Type:
 
 
 class Module:
-    def __init__(self, crate, path, file, parent, is_of_the_kit):
-        self.crate, self.path, self.file, self.parent, self.is_of_the_kit = crate, path, file, parent, is_of_the_kit
+    def __init__(self, crate, path, file, parent):
+        self.crate, self.path, self.file, self.parent = crate, path, file, parent
         self.functions, self.types, self.modules = {}, {}, {}
         # A name to the paths that bring it: a module and a function may have one name.
         self.imports = {}
@@ -242,6 +245,11 @@ def refuse(tokens, words, where):
 def read_source(module, text):
     """Puts all that a source declares into its module."""
     cursor = Cursor(text)
+    while cursor.sees("#", "!"):
+        cursor.take("#")
+        cursor.take("!")
+        if "".join(token.text for token in cursor.take_bracketed()) != ATTRIBUTE_OF_A_FILE:
+            raise Unreadable(cursor.tokens[cursor.at - 1].line, "an attribute that is not known")
     while not cursor.is_at_end():
         attributes = read_attributes(cursor)
         is_public = read_visibility(cursor)
@@ -272,13 +280,18 @@ def read_source(module, text):
 
 
 def read_attributes(cursor):
-    names = set()
+    """The attributes before an item: each as it stands, and of a cycle its name."""
+    found = {}
     while cursor.takes("#"):
-        tokens = cursor.take_bracketed()
-        if not tokens or tokens[0].text not in ATTRIBUTES:
+        words = [token.text for token in cursor.take_bracketed()]
+        whole = "".join(words)
+        if words[:2] == ["cycle", "("] and len(words) == 4:
+            is_known, found["cycle"] = True, words[2]
+        else:
+            is_known, found[whole] = whole in WHOLE_ATTRIBUTES or words[:1] and words[0] in ATTRIBUTES, True
+        if not is_known:
             raise Unreadable(cursor.tokens[cursor.at - 1].line, "an attribute that is not known")
-        names.add(tokens[0].text)
-    return names
+    return found
 
 
 def read_visibility(cursor):
@@ -370,7 +383,9 @@ def read_function(cursor, module, owner, attributes, is_public):
     cursor.take("fn")
     name = cursor.take_name()
     function = Function(module, owner, name.text, name.line)
-    function.is_exported = "no_mangle" in attributes or (is_for_c and is_public)
+    # In a library for other crates these words export nothing; in the crate that C links each function with one is taken for exported.
+    function.is_exported = "unsafe(no_mangle)" in attributes or (is_for_c and is_public)
+    function.cycle_name = attributes.get("cycle")
     before = cursor.take_until("(")
     parameters = cursor.take_bracketed()
     behind = cursor.take_until("{", ";")
@@ -384,25 +399,31 @@ def read_function(cursor, module, owner, attributes, is_public):
     body = cursor.take_bracketed()
     refuse(body, WORDS_UNREAD_IN_BODIES, f"the body of '{name.text}'")
     function.loops = loops_in(body)
+    function.copies = copies_in(body)
     function.calls = calls_in(body)
     return function
 
 
 def loops_in(body):
-    """The loops in the order of the text, each with the name that its proof gives it: `loop`, `loop2`, or its label's."""
-    loops, named = [], Counter()
+    """The loops in the order of the text, each with the names that its proof may give it: its label's; else `loop-` and a variable, or `loop` alone."""
+    loops = []
     for at, token in enumerate(body):
         if token.kind != "name" or token.text not in LOOP_WORDS:
             continue
         is_labelled = at >= 2 and body[at - 1].text == ":" and body[at - 2].kind == "label"
         first = body[at - 2] if is_labelled else token
         last = body[head_end(body, at) - 1]
-        base = first.text[1:].replace("_", "-") if is_labelled else "loop"
-        named[base] += 1
-        name = base + (str(named[base]) if named[base] > 1 else "")
         tokens = [token for token in body if first.start <= token.start < last.end]
-        loops.append(Loop(shown(tokens), tuple(token.text for token in tokens), name, first.line, first.start, last.end))
+        variables = {token.text for token in tokens if token.kind == "name" and token.text not in LOOP_WORDS}
+        names = {first.text[1:]} if is_labelled else {"loop"} | {f"loop-{variable}" for variable in variables}
+        loops.append(Loop(shown(tokens), tuple(token.text for token in tokens), frozenset(names), first.line, first.start, last.end))
     return loops
+
+
+def copies_in(body):
+    """The calls of the method that copies, each as a loop is: its head is the method's name, and it has no measure."""
+    return [Loop(COPY, (COPY,), frozenset(), token.line, token.start, token.end) for at, token in enumerate(body)
+            if token.text == COPY and at and body[at - 1].text == "." and at + 1 < len(body) and body[at + 1].text == "("]
 
 
 def shown(tokens):

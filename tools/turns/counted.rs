@@ -8,7 +8,7 @@ pub struct CountedLibrary;
 mod with_counters {
     use record::Guest;
 
-    extern crate host;
+    extern crate host_c;
 
     unsafe extern "C-unwind" {
         pub safe fn yavoledu_send(

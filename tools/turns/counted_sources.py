@@ -1,24 +1,25 @@
 """The library's Rattle sources as Rust with a counter in every loop. Rattle's text is Rust's but for a few places, so what is changed is little:
 
-1. `ghost use` lines and contracts (`requires { .. }`, `ensures { .. }`) are taken out: they are for the proof, and no code.
-2. Every struct and enum gets `#[derive(Clone, Copy)]`: in Rattle such values are copied as they are used.
-3. `std::num::` becomes `rattle_num::`: the functions that the library names there are Rattle's own, taken from the kit as they are.
+1. `ghost use` lines, contracts (`requires { .. }`, `ensures { .. }`) and the attributes `tactic` and `cycle` are taken out: they are for the
+   proof, and no code.
+2. In the crate `host` the attribute of an exported name is taken out: what a library for other crates has of it exports nothing.
+3. `std::num::` becomes `rattle_num::`: the functions that the library names there are Rattle's own, which wrap as Rust's methods do.
 4. `extern "C"` becomes `extern "C-unwind"`, so that a sum that overflows ends the call and not the program.
 5. A loop's body starts with `turns::turn(K);`, the body of its function with `turns::run(K);`, and the body of a function that calls itself,
    by way of others or not, with `let _call = turns::call(K);`. In the crate `sums`, where the length of the slice that its
    function is lent says how many turns a loop takes, that starts with `let _run = turns::run_over(K, SLICE.len());` instead.
+6. What is handed to `copy_from_slice` goes through `turns::copied(K, ..)`, which counts a turn for each byte.
 
-Nothing else is changed: names, numbers, conditions, order and crates stay as they are. Of the kit just the functions that the library names are
-taken: `bytes::copy` and those that wrap.
+Nothing else is changed: names, numbers, conditions, order and crates stay as they are.
 """
 import re
 import subprocess
 from dataclasses import dataclass
 from pathlib import Path
 
-from loops.library import LIBRARY, STANDARD, Library, lines_of_crates
+from loops.library import EXPORTED, FUNCTIONS_OF_STANDARD, LIBRARY, STANDARD, Library, lines_of_crates
 
-# Rust has a crate of the name that the kit's has.
+# Rust has a crate of the name that Rattle's has.
 NAME_OF_STANDARD = "rattle_num"
 # The length of what its function is lent says how many turns a loop of this file takes, so that each run has to take what a formula says.
 FILE_OF_THE_SUM = "crates/sums/src/lib.rt"
@@ -70,10 +71,9 @@ class Counters:
     """What has a counter, in the order of the counters: the loops, and the groups of functions that call each other."""
 
     def __init__(self, library):
-        counted = [function for function in library.functions if library.is_part(function)]
         self.numbers, self.loops, self.recursions = {}, [], []
-        for function in counted:
-            for loop in function.loops:
+        for function in library.functions:
+            for loop in function.loops + function.copies:
                 self.numbers[function, loop] = len(self.loops)
                 self.loops.append(Counted(function.file, [function.title]))
         self.cycles = library.cycles()
@@ -82,11 +82,15 @@ class Counters:
 
     def put_into(self, function, text):
         """The counters of one function, each with its place in the text of its file."""
-        head = "".join(" " + start_of_run(function, self.numbers[function, loop], text) for loop in function.loops)
+        head = "".join(" " + start_of_run(function, self.numbers[function, loop], text) for loop in function.loops + function.copies)
         head += "".join(f" let _call = turns::call({number});" for number, cycle in enumerate(self.cycles) if function in cycle)
         yield function.body_start, head
         for loop in function.loops:
             yield text.index("{", loop.end) + 1, f" turns::turn({self.numbers[function, loop]});"
+        for copy in function.copies:
+            opened = text.index("(", copy.end)
+            yield opened + 1, f"turns::copied({self.numbers[function, copy]}, "
+            yield closing(plain(text), opened), ")"
 
 
 def start_of_run(function, number, text):
@@ -106,8 +110,10 @@ def with_insertions(text, insertions):
     return text
 
 
-def as_rust(text):
-    text = re.sub(r"^((?:pub )?(?:struct|enum) )", r"#[derive(Clone, Copy)]\n\1", without_ghosts(text), flags=re.M)
+def as_rust(crate, text):
+    text = re.sub(r"^#(?:!\[tactic|\[cycle)\(\w+\)\]\n", "", without_ghosts(text), flags=re.M)
+    if crate == EXPORTED:
+        text = text.replace("#[unsafe(no_mangle)]\n", "")
     return text.replace(f"{STANDARD}::num::", f"{NAME_OF_STANDARD}::").replace('extern "C" fn', 'extern "C-unwind" fn')
 
 
@@ -140,23 +146,17 @@ def own_crates(repository, library, counters):
         for module in library.crates[name].all_modules():
             text = (repository / module.file).read_text()
             insertions = [one for function in functions_in(module) for one in counters.put_into(function, text)]
-            texts["/".join(module.path or ("lib",))] = as_rust(with_insertions(text, insertions))
+            texts["/".join(module.path or ("lib",))] = as_rust(name, with_insertions(text, insertions))
         yield Crate(name, [crate for crate in crates_below(name, needs) if crate != name], texts)
 
 
-def kit_crates(kit, library, counters):
-    """Crates of just those functions of the kit that the library reaches."""
-    texts = {}
-    for function in library.functions:
-        if function.is_of_the_kit and library.is_part(function):
-            text = (kit / "libs" / function.file).read_text()
-            start, stop = text.rindex(f"fn {function.name}", 0, function.body_start), closing(plain(text), function.body_start - 1) + 1
-            counted = with_insertions(text[:stop], counters.put_into(function, text))
-            texts.setdefault(function.module.crate, []).append("pub " + counted[start:] + "\n")
-    for name in library.crates:
-        if library.crates[name].is_of_the_kit:
-            rust_name = NAME_OF_STANDARD if name == STANDARD else name
-            yield Crate(rust_name, [], {"lib": as_rust("\n".join(texts.get(name, [])))})
+def standard_crate():
+    """The functions of Rattle's standard library that are known: they are those of Rust, whose methods have these names without the type's."""
+    texts = []
+    for _, name in sorted(FUNCTIONS_OF_STANDARD):
+        method, _, number = name.rpartition("_")
+        texts.append(f"#[inline]\npub fn {name}(a: {number}, b: {number}) -> {number} {{\n    a.{method}(b)\n}}\n")
+    return Crate(NAME_OF_STANDARD, [], {"lib": "\n".join(texts)})
 
 
 def compiled(words, folder):
@@ -181,26 +181,24 @@ def longest_piece(crates):
     return f"pub {found[0]}\n"
 
 
-def driver_of(repository, kit, folder, shipped=None):
+def driver_of(repository, folder, shipped=None):
     """Writes the library with counters into `folder` and compiles it with the driver, and with the shipped library's object where that is given;
     hands back the program, the loops, the recursions and the names of the exported functions."""
-    library = Library(str(repository), str(kit))
+    library = Library(str(repository))
     if library.faults:
         raise CannotRun("the sources can't be read: " + ": ".join(map(str, library.faults[0])))
     counters = Counters(library)
-    of_the_kit = list(kit_crates(kit, library, counters))
-    crates = of_the_kit + list(own_crates(repository, library, counters))
+    crates = [standard_crate(), *own_crates(repository, library, counters)]
     here = Path(__file__).parent
     parts = [(here / "turns.rs").read_text(), listed("LOOPS", counters.loops), listed("RECURSIONS", counters.recursions), longest_piece(crates)]
     (folder / "turns.rs").write_text("\n".join(parts))
     compiled(["--crate-type", "rlib", "--crate-name", "turns", "--out-dir", folder, folder / "turns.rs"], folder)
-    kit_names = [crate.name for crate in of_the_kit]
     for crate in crates:
         for name, text in crate.texts.items():
             file = (folder / crate.name / name).with_suffix(".rs")
             file.parent.mkdir(parents=True, exist_ok=True)
             file.write_text(text)
-        externs = [word for below in ["turns", *(kit_names if crate.name not in kit_names else []), *crate.needs]
+        externs = [word for below in ["turns", *([NAME_OF_STANDARD] if crate.name != NAME_OF_STANDARD else []), *crate.needs]
                    for word in ("--extern", f"{below}={folder}/lib{below}.rlib")]
         compiled(["--crate-type", "rlib", "--crate-name", crate.name, "--out-dir", folder, *externs, folder / crate.name / "lib.rs"], folder)
     program = folder / "driver"

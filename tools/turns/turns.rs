@@ -73,6 +73,13 @@ pub fn turn(k: usize) {
     add(&TURNS_OF_RUN[k], 1);
 }
 
+/// What is copied by loop `k`, a turn for each byte.
+#[inline]
+pub fn copied(k: usize, bytes: &[u8]) -> &[u8] {
+    add(&TURNS_OF_RUN[k], bytes.len() as u64);
+    bytes
+}
+
 /// One of the functions of recursion `k` is called; it has returned once this is dropped.
 pub fn call(k: usize) -> Call {
     add(&CALLS[k], 1);

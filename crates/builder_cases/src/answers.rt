@@ -68,7 +68,7 @@ fn is_frame(head: &[u8], payload: &[u8], n: usize, out: &[u8]) -> bool {
     if out.len() < n {
         return false;
     }
-    check::same(part(out, 0, start), head)
-        & check::same(part(out, start, n - start), payload)
+    (part(out, 0, start) == head)
+        & (part(out, start, n - start) == payload)
         & vectors::is_marked(&out[n..])
 }

@@ -196,7 +196,7 @@ fn is_answer(fields: &[u8], verdict: Verdict, frame: &[u8], out: &[u8]) -> bool 
 
 // The buffer starts with the image, and has its marks behind it.
 fn holds(out: &[u8], image: &[u8]) -> bool {
-    check::same(vectors::part(out, 0, image.len()), image)
+    (vectors::part(out, 0, image.len()) == image)
         & vectors::is_marked(vectors::rest(out, image.len()))
 }
 

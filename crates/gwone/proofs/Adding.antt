@@ -9,8 +9,7 @@ use lib.ListN.{length, take, get_or, length-append, take-append-drop}
 use lib.Seq.{take-suc}
 use Rattle.base.specs.Buffer.{put}
 use Rattle.base.proofs.Lists.{put-put}
-use Rattle.io.specs.Digits.{hex_digit_ascii}
-use Rattle.gwone.specs.Text.{Added, ascii, decimal, hex}
+use Rattle.gwone.specs.Text.{Added, ascii, decimal, glyph, hex}
 use Rattle.gwone.specs.Printed.{spaced}
 
 -- no piece at all
@@ -33,7 +32,7 @@ reworded e added = rw e at added
 pub hex_append : (a b : List ℕ) → hex (a ++ b) ≡ hex a ++ hex b
 unfolding hex
 hex_append [] b = refl
-hex_append (byte ∷ a) b = ap (λ (l : List ℕ). hex_digit_ascii (byte / 16) ∷ hex_digit_ascii (byte % 16) ∷ l) (hex_append a b)
+hex_append (byte ∷ a) b = ap (λ (l : List ℕ). glyph (byte / 16) ∷ glyph (byte % 16) ∷ l) (hex_append a b)
 
 pub length_hex : (bytes : List ℕ) → length (hex bytes) ≡ 2 * length bytes
 unfolding hex

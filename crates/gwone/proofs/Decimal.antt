@@ -1,52 +1,58 @@
--- The fewest digits that hold a number are its decimal digits: by induction, a digit at a time from the last.
+-- A number's decimal digits, taken one by one from its end.
 use Prim.Native.Nat.{ℕ, zero, suc, ◌+◌, ◌/◌, ◌%◌, ◌^◌, ◌-◌, ◌≤◌, ◌<◌}
-use mathlib.Core.Path.{◌≡◌, refl, ap, subst, ◌∙◌}
-use mathlib.Core.List.{List, [], ◌∷◌, ◌++◌}
-use mathlib.Core.Bool.{Bool, true, false, cond}
-use native.Mathlib.Nat.{pow-suc, pow-le-pow_right, mod-eq_of_lt, le-div_iff_mul-le, div-lt_iff_lt-mul, lt_of_not-le}
+use mathlib.Core.Path.{◌≡◌, refl, ap, sym, ◌∙◌}
+use mathlib.Core.List.{List, [], ◌∷◌, ◌++◌, append_assoc}
+use mathlib.Core.Bool.{Bool, true, false}
+use native.Mathlib.Nat.{pow-suc, div-lt_iff_lt-mul}
 use native.Mathlib.Omega.{arith}
-use borrow.Author.Tests.{ltb-true, ltb-false}
+use borrow.Author.Tests.{lt-ltb, le-ltb, ltb-false}
 use lib.Dec.{lit<, ltb}
-use Rattle.io.specs.Digits.{hex_digit_ascii, last_digits, IsDigitCount}
-use Rattle.gwone.specs.Text.{decimal, decimal_within}
+use lib.ListN.{length, drop, set}
+use Rattle.std.proofs.lemmas.List.{drop-set}
+use Rattle.gwone.specs.Text.{glyph, decimal, decimal_within}
 
--- a number of two digits and more is at least 10 to the power of the digits before its last
-no_less : (n i : ℕ) → IsDigitCount 10 1 n (suc (suc i)) → 10 ^ suc i ≤ n
-no_less n i f = let e : suc (suc i) - 1 ≡ suc i = omega arith in rw e at (f.2 (omega arith))
+longer : (a b n : ℕ) (small : Bool) → ltb n 10 ≡ small → (10 ≤ n → decimal_within a (n / 10) ≡ decimal_within b (n / 10))
+    → decimal_within (suc a) n ≡ decimal_within (suc b) n
+longer a b n true e fewer = simp e
+longer a b n false e fewer = simp e (ap (λ (l : List ℕ). l ++ (glyph (n % 10) ∷ [])) (fewer (ltb-false n 10 e)))
 
--- a number below 10 has one digit
-one_digit : (n k : ℕ) → n < 10 → IsDigitCount 10 1 n k → last_digits 10 k n ≡ hex_digit_ascii n ∷ []
-one_digit n zero small f = absurd (omega arith)
-one_digit n (suc zero) small f = rw (mod-eq_of_lt small)
-one_digit n (suc (suc i)) small f = absurd (omega (arith, no_less n i f, pow-le-pow_right {n = 10} (lit< tt) {i = 1} {j = suc i} (omega arith)))
+-- the bound of the recursion doesn't matter where it is bound enough
+same : (a b n : ℕ) → n ≤ a → n ≤ b → decimal_within a n ≡ decimal_within b n
+same zero zero n h k = refl
+same zero (suc b) n h k = simp (lt-ltb n 10 (omega arith))
+same (suc a) zero n h k = simp (lt-ltb n 10 (omega arith))
+same (suc a) (suc b) n h k = longer a b n (ltb n 10) refl (λ large. same a b (n / 10) (omega arith) (omega arith))
 
--- without its last digit a number has one digit fewer
-one_fewer : (n j : ℕ) → 10 ≤ n → IsDigitCount 10 1 n (suc j) → IsDigitCount 10 1 (n / 10) j
-one_fewer n zero large f = absurd (omega arith)
-one_fewer n (suc i) large f = (
-  omega arith,
-  (div-lt_iff_lt-mul (lit< tt)).1 (rw pow-suc at f.1),
-  λ more. (le-div_iff_mul-le (lit< tt)).1 (subst (λ (m : ℕ). m ≤ n) (ap (λ (m : ℕ). 10 ^ m) (omega arith) ∙ pow-suc 10 (suc i - 1)) (no_less n i f)),
-)
-
--- the last digit, and in front of it those of the rest
-last_digit : (most n j : ℕ) (small : Bool) → ltb n 10 ≡ small → IsDigitCount 10 1 n (suc j)
-    → (10 ≤ n → last_digits 10 j (n / 10) ≡ decimal_within most (n / 10))
-    → last_digits 10 (suc j) n ≡ cond small (hex_digit_ascii n ∷ []) (decimal_within most (n / 10) ++ (hex_digit_ascii (n % 10) ∷ []))
-last_digit most n j true e f rest = one_digit n (suc j) (ltb-true n 10 e) f
-last_digit most n j false e f rest = ap (λ (l : List ℕ). l ++ (hex_digit_ascii (n % 10) ∷ [])) (rest (ltb-false n 10 e))
-
-within : (most n k : ℕ) → n ≤ most → IsDigitCount 10 1 n k → last_digits 10 k n ≡ decimal_within most n
-within zero n k le f = one_digit n k (omega arith) f
-within (suc most) n zero le f = absurd (omega arith)
-within (suc most) n (suc j) le f = last_digit most n j (ltb n 10) refl f (λ large. within most (n / 10) j (omega arith) (one_fewer n j large f))
-
-pub fewest_decimal : (n k : ℕ) → IsDigitCount 10 1 n k → last_digits 10 k n ≡ decimal n
+pub one_digit : (n : ℕ) → n < 10 → decimal n ≡ glyph n ∷ []
 unfolding decimal
-fewest_decimal n k f = within n n k (omega arith) f
+one_digit n small = same n (suc n) n (omega arith) (omega arith) ∙ simp (lt-ltb n 10 small)
 
--- a number of 64 bits has no more than 20 digits
-pub at_most_20 : (n k : ℕ) → n < 2 ^ 64 → IsDigitCount 10 1 n k → k ≤ 20
-at_most_20 n k small f =
-    let under : k < 21 = lt_of_not-le (λ more. omega (arith, f.2 (omega arith), pow-le-pow_right {n = 10} (lit< tt) {i = 20} {j = k - 1} (omega arith))) in
-    omega arith
+-- a number of two digits or more ends with its last digit
+pub last_digit : (n : ℕ) → 10 ≤ n → decimal n ≡ decimal (n / 10) ++ (glyph (n % 10) ∷ [])
+unfolding decimal
+last_digit n large =
+    same n (suc n) n (omega arith) (omega arith)
+    ∙ simp (le-ltb n 10 large) (ap (λ (l : List ℕ). l ++ (glyph (n % 10) ∷ [])) (same n (n / 10) (n / 10) (omega arith) (omega arith)))
+
+-- Digits at the end of a buffer, from `start` on, and before them a number that is still to be laid.
+module _ (number rest start : ℕ) (digits : List ℕ) (inside : start ≤ length digits) (so_far : decimal number ≡ decimal rest ++ drop start digits) where
+  -- a digit is laid before them
+  laid : (digit : ℕ) → 0 < start → drop (start - 1) (set digits (start - 1) digit) ≡ digit ∷ drop start digits
+  laid digit some =
+      drop-set digits (start - 1) digit (omega arith) ∙ (let e : start - 1 + 1 ≡ start = omega arith in ap (λ m. digit ∷ drop m digits) e)
+
+  pub more_laid : 0 < start → 10 ≤ rest → decimal number ≡ decimal (rest / 10) ++ drop (start - 1) (set digits (start - 1) (glyph (rest % 10)))
+  more_laid some large =
+      so_far
+      ∙ ap (λ l. l ++ drop start digits) (last_digit rest large)
+      ∙ append_assoc (decimal (rest / 10)) (glyph (rest % 10) ∷ []) (drop start digits)
+      ∙ ap (λ l. decimal (rest / 10) ++ l) (sym (laid (glyph (rest % 10)) some))
+
+  pub all_laid : 0 < start → rest < 10 → drop (start - 1) (set digits (start - 1) (glyph rest)) ≡ decimal number
+  all_laid some small = laid (glyph rest) some ∙ ap (λ l. l ++ drop start digits) (sym (one_digit rest small)) ∙ sym so_far
+
+-- a number of that many digits at most has one fewer without its last one
+pub one_fewer : (rest start : ℕ) → rest < 10 ^ start → 10 ≤ rest → (2 ≤ start) × (rest / 10 < 10 ^ (start - 1))
+one_fewer rest zero few large = absurd (omega arith)
+one_fewer rest (suc zero) few large = absurd (omega arith)
+one_fewer rest (suc (suc i)) few large = (omega arith, let e : suc (suc i) - 1 ≡ suc i = omega arith in rw e ((div-lt_iff_lt-mul (lit< tt)).1 (rw pow-suc at few)))

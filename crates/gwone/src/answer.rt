@@ -1,11 +1,10 @@
 // The gateway's answer to one frame, as text: a line with a word and numbers, and for a reply a
 // second with its bytes.
 ghost use Rattle.std.specs.Prelude.{◌≡◌, ◌≤◌, [], ◌∷◌, ◌++◌, length, take};
-ghost use Rattle.io.specs.Counts.{IsPrefixLen};
 ghost use Rattle.record.specs.Answer.{paper};
 ghost use Rattle.record.specs.Guest.{fresh};
 ghost use Rattle.record.specs.Network.{document01};
-ghost use Rattle.gwone.specs.Text.{Added, ascii, hex};
+ghost use Rattle.gwone.specs.Text.{Added, IsPrefixLen, ascii, hex};
 ghost use Rattle.gwone.specs.Printed.{spaced, answer_text, guest_mac_lem, printed, room};
 
 use crate::text::{add, add_hex, add_number};

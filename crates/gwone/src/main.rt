@@ -4,14 +4,13 @@
 mod answer;
 mod text;
 
-const STDIN: i32 = 0;
+use input::read_full;
+use std::io;
 
-const STDOUT: i32 = 1;
-
-fn main() {
+fn main(rt: HostRuntime) -> io::Result<()> {
     let mut input = answer::input_space();
-    let n = io::read_full(STDIN, &mut input);
+    let n = read_full(&mut rt.reader(), &mut input)?;
     let mut text = answer::text_space();
     let end = answer::add_printed(&input[..n], &mut text);
-    io::write_all(STDOUT, &text[..end]);
+    rt.write_all(&text[..end])
 }

@@ -1,7 +1,6 @@
 // Text in a buffer: each function adds a piece from `at` on and answers where it ends.
-ghost use Rattle.std.specs.Prelude.{◌≡◌, [], ◌∷◌, ◌++◌, ◌+◌, ◌*◌, ◌≤◌, ◌<◌, length};
-ghost use Rattle.io.specs.Digits.{hex_digit_ascii as Digits·glyph};
-ghost use Rattle.gwone.specs.Text.{Added, ascii, decimal, hex};
+ghost use Rattle.std.specs.Prelude.{◌≡◌, [], ◌∷◌, ◌++◌, ◌+◌, ◌*◌, ◌≤◌, ◌<◌, drop, length};
+ghost use Rattle.gwone.specs.Text.{Added, ascii, decimal, glyph as glyph_of, hex};
 
 pub fn add(text: &mut [u8], at: usize, piece: &[u8]) -> usize
     requires { at + length piece.now ≤ length text.old }
@@ -18,9 +17,26 @@ pub fn add_number(text: &mut [u8], at: usize, number: usize) -> usize
     ensures upper_bound { result ≤ at + 21 }
 {
     let mut digits = [0u8; 20];
-    let count = io::decimal(number as u64, &mut digits);
+    let start = lay_decimal(number as u64, &mut digits);
     let at = add(text, at, b" ");
-    add(text, at, &digits[..count])
+    add(text, at, &digits[start..])
+}
+
+// The number in decimal, at the end of `digits`, and where it starts there.
+fn lay_decimal(number: u64, digits: &mut [u8; 20]) -> usize
+    ensures digits { drop result digits.new ≡ decimal number }
+    ensures start { result < 20 }
+{
+    let mut start = 20;
+    let mut rest = number;
+    while rest > 9 {
+        start -= 1;
+        digits[start] = glyph((rest % 10) as u8);
+        rest /= 10;
+    }
+    start -= 1;
+    digits[start] = glyph(rest as u8);
+    start
 }
 
 // Two digits for each byte.
@@ -47,7 +63,7 @@ fn add_byte(text: &mut [u8], at: usize, byte: u8) -> usize
 // The ASCII code of a digit.
 fn glyph(digit: u8) -> u8
     requires { digit < 16 }
-    ensures { result ≡ Digits·glyph digit }
+    ensures { result ≡ glyph_of digit }
 {
     if digit < 10 {
         b'0' + digit

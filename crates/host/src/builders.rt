@@ -68,7 +68,7 @@ pub extern "C" fn yavoledu_make_tcp_frame(
     values: &mut [usize; 2],
 ) -> u32
     ensures { MakesTcpFrame id.old
-        (record { dst_mac = dst_mac.entry.now; src_ip = src_ip.now; src_port = src_port; dst_ip = dst_ip.now; dst_port = dst_port })
+        (record { dst_mac = dst_mac.now; src_ip = src_ip.now; src_port = src_port; dst_ip = dst_ip.now; dst_port = dst_port })
         seq ack flags «data».now
         out.old out.new result values.new id.new }
 {

@@ -5,27 +5,26 @@
 
 mod rows;
 
+use input::read_full;
 use record::Guest;
+use std::io;
 use vectors::{SPOILED, Tally};
 use wire::bytes::byte_at;
-
-const STDIN: i32 = 0;
-
-const STDOUT: i32 = 1;
 
 // The largest input, with a byte to spare.
 const TEXT_ROOM: usize = 1835008;
 
-fn main() {
+const LONGEST_LINE: usize = 4096;
+
+fn main(rt: HostRuntime) -> io::Result<()> {
     let mut space = vectors::large_space();
     let text = vectors::front(&mut space, TEXT_ROOM);
-    let n = io::read_full(STDIN, text);
+    let n = read_full(&mut rt.reader(), text)?;
     if n == text.len() {
-        io::write_all(STDOUT, b"input over 1835007\n");
-        return;
+        return println!(rt; "input over 1835007");
     }
-    let mut line = io::buffer();
-    rows::print(replayed(vectors::part(text, 0, n), &mut line));
+    let mut line = [0u8; LONGEST_LINE];
+    rows::print(&rt, replayed(vectors::part(text, 0, n), &mut line))
 }
 
 // The count so far, and the record that the last gateway call left.

@@ -1,6 +1,7 @@
 // The rows of the tally: one for each kind of line; no line has the kinds 0 and 4. Behind them one for
 // each verdict of a gateway call, one for records made and one for those refused, then one for each way
 // in which a gateway call's answer is the Rust's or document 01's, and one for those on other networks.
+use std::io;
 use vectors::Tally;
 
 // Up to here each case is in one row: the rows behind count gateway calls once more.
@@ -51,7 +52,7 @@ pub fn of_making(named: bool, made: bool) -> usize {
 }
 
 // The names of the rows, in their order.
-pub fn print(tally: Tally) {
+pub fn print<R: Print>(rt: &R, tally: Tally) -> io::Result<()> {
     let names = b"line not understood\n\
           checksum\n\
           checksum in two pieces\n\
@@ -80,5 +81,5 @@ pub fn print(tally: Tally) {
           of the gateway's, document 01's, where the Rust cuts a length\n\
           of the gateway's, document 01's, where the Rust knows no buffer\n\
           of the gateway's, on another network\n";
-    vectors::print(tally, names, ONCE);
+    vectors::print(rt, tally, names, ONCE)
 }

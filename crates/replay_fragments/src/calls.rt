@@ -42,8 +42,7 @@ pub fn called(
     compared::keep_words(bits, &mut old_bits);
     let call = compared_call(state, wanted, frame, payload, bytes, bits);
     let after = call.state;
-    let kept = check::same(bytes, old_bytes)
-        & is_kept(wanted.answer, state, after, bits, &old_bits);
+    let kept = (*bytes == *old_bytes) & is_kept(wanted.answer, state, after, bits, &old_bits);
     Outcome {
         state: after,
         agrees: call.agrees & (may_change(wanted.answer) | kept),
@@ -78,7 +77,7 @@ fn compared_call(
     let lent_bits = front_words(bits, words_lent(wanted.lent));
     let taken = asked(state, wanted.release, frame, lent, lent_bits);
     let handed_out = fragments::payload(taken, frame, lent);
-    let same_payload = check::same(handed_out, payload);
+    let same_payload = handed_out == payload;
     let answer = taken.answer;
     let after = taken.state;
     Outcome {

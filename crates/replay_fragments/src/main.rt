@@ -12,30 +12,26 @@ mod rows;
 mod spaces;
 
 use crate::lines::Run;
+use input::read_full;
+use std::io;
 use vectors::Tally;
-
-const STDIN: i32 = 0;
-
-const STDOUT: i32 = 1;
-
-// The largest input, with a byte to spare.
-const TEXT_ROOM: usize = 1048576;
 
 const LONGEST_LINE: usize = 66000;
 
-fn main() {
-    let mut text_space = vectors::large_space();
-    let text = vectors::front(&mut text_space, TEXT_ROOM);
-    let n = io::read_full(STDIN, text);
+fn main(rt: HostRuntime) -> io::Result<()> {
+    let mut text = spaces::largest_text();
+    let n = read_full(&mut rt.reader(), &mut text)?;
     if n == text.len() {
-        io::write_all(STDOUT, b"input over 1048575\n");
-        return;
+        return println!(rt; "input over 1048575");
     }
     let mut line_space = vectors::clear_space();
     let line = vectors::front(&mut line_space, LONGEST_LINE);
     let mut pool = spaces::largest_train();
     let mut ends = spaces::most_items();
-    rows::print(replayed(vectors::part(text, 0, n), line, &mut pool, &mut ends));
+    rows::print(
+        &rt,
+        replayed(vectors::part(&text, 0, n), line, &mut pool, &mut ends),
+    )
 }
 
 fn replayed(text: &[u8], line: &mut [u8], pool: &mut [u8], ends: &mut [usize]) -> Tally {

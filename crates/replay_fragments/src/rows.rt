@@ -1,5 +1,6 @@
 // The rows of the tally: lines that are not understood, spoiled replays, the others by their origin, and
 // behind them their calls by the answer that is expected.
+use std::io;
 use vectors::Tally;
 
 pub const UNREAD: usize = 0;
@@ -28,7 +29,7 @@ pub fn row_of(answer: u8) -> usize {
 }
 
 // The names of the rows, in their order.
-pub fn print(tally: Tally) {
+pub fn print<R: Print>(rt: &R, tally: Tally) -> io::Result<()> {
     let names = b"line not understood\n\
           spoiled replay, found wrong\n\
           the operating system's ping, its fragments in many orders\n\
@@ -43,5 +44,5 @@ pub fn print(tally: Tally) {
           calls that are to be refused, 11\n\
           calls that are to be refused, 12\n\
           calls that are to be refused, 13\n";
-    vectors::print(tally, names, CALLS);
+    vectors::print(rt, tally, names, CALLS)
 }

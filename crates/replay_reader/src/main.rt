@@ -6,25 +6,22 @@ mod cases;
 mod expected;
 mod rows;
 
+use input::read_full;
+use std::io;
 use vectors::Tally;
-
-const STDIN: i32 = 0;
-
-const STDOUT: i32 = 1;
 
 // A frame of 66,000 bytes, and 55 bytes for what a line says of it.
 const LONGEST_LINE: usize = 66055;
 
-fn main() {
+fn main(rt: HostRuntime) -> io::Result<()> {
     let mut text = vectors::large_space();
-    let n = io::read_full(STDIN, &mut text);
+    let n = read_full(&mut rt.reader(), &mut text)?;
     if n == text.len() {
-        io::write_all(STDOUT, b"input over 2097151\n");
-        return;
+        return println!(rt; "input over 2097151");
     }
     let mut space = vectors::clear_space();
     let line = vectors::front(&mut space, LONGEST_LINE);
-    rows::print(replayed(vectors::part(&text, 0, n), line));
+    rows::print(&rt, replayed(vectors::part(&text, 0, n), line))
 }
 
 fn replayed(text: &[u8], line: &mut [u8]) -> Tally {

@@ -1,6 +1,7 @@
 // The rows of the tally: lines that are no case, spoiled ones, the others by their origin, and those
 // once more by their kind.
 use crate::cases::Case;
+use std::io;
 use vectors::Tally;
 
 const UNREAD: usize = 0;
@@ -29,7 +30,7 @@ pub fn counted(tally: Tally, case: Case) -> Tally {
 }
 
 // The names of the rows, in their order.
-pub fn print(tally: Tally) {
+pub fn print<R: Print>(rt: &R, tally: Tally) -> io::Result<()> {
     let names = b"line not understood\n\
           spoiled line, found wrong\n\
           captured as real software sent it\n\
@@ -46,5 +47,5 @@ pub fn print(tally: Tally) {
           by kind, DHCP\n\
           by kind, TCP\n\
           by kind, other IPv4\n";
-    vectors::print(tally, names, KINDS);
+    vectors::print(rt, tally, names, KINDS)
 }

@@ -1,8 +1,12 @@
 -- A line of text as bytes: two hexadecimal digits to a byte. Spaces count for nothing, and `#` starts a comment.
 use Rattle.std.specs.Prelude.{◌≡◌, ℕ, zero, suc, ◌+◌, ◌-◌, ◌*◌, ◌≤◌, min, Bool, true, false, cond, ◌&&◌, List, [], ◌∷◌, length, take, drop, ◌==◌, nat_le, nat_lt}
-use Rattle.bytes.specs.Bytes.{index_of}
+use Rattle.std.specs.List.{position_or_len}
 use Rattle.vectors.specs.declared.lines.Line.{Line}
 use Rattle.vectors.specs.declared.lines.Read.{Read}
+
+-- where the first `c` stands, or the length where there is none
+abbrev pub index_of : ℕ → List ℕ → ℕ
+index_of c s = position_or_len (λ x. x == c) s
 
 -- all before the first `c`, or all where there is none
 unfoldable pub up_to : ℕ → List ℕ → List ℕ

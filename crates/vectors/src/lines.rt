@@ -1,9 +1,9 @@
 // A line of text as bytes: two hexadecimal digits to a byte. Spaces count for nothing, and `#` starts
 // a comment.
 ghost use Rattle.std.specs.Prelude.{◌≡◌, ◌+◌, ◌≤◌, min, false, length};
-ghost use Rattle.vectors.specs.Lines.{Decoded, ReadInto, digit};
+ghost use Rattle.vectors.specs.Lines.{Decoded, ReadInto, digit, index_of};
 
-use bytes::scan::find;
+use crate::slices::rest;
 
 #[derive(Clone, Copy)]
 pub struct Line {
@@ -37,14 +37,23 @@ pub fn decode(text: &[u8], at: usize, line: &mut [u8]) -> Line
             whole: true,
         };
     }
-    let end = find(text, at, text.len(), b'\n');
-    let stop = find(text, at, end, b'#');
-    let read = read_bytes(&text[at..stop], line);
+    let left = rest(text, at);
+    let end = find(left, b'\n');
+    let stop = find(&left[..end], b'#');
+    let read = read_bytes(&left[..stop], line);
     Line {
         len: read.len,
-        next: behind(end, text.len()),
+        next: behind(at + end, text.len()),
         whole: read.whole,
     }
+}
+
+// Where the first such byte stands, or the length where there is none.
+pub fn find(s: &[u8], byte: u8) -> usize
+    ensures place { result ≡ index_of byte s.now }
+    ensures within { result ≤ length s.now }
+{
+    s.iter().position(|b| *b == byte).unwrap_or(s.len())
 }
 
 fn behind(end: usize, len: usize) -> usize

@@ -2,7 +2,6 @@
 ghost use Rattle.std.specs.Prelude.{◌≡◌, true, ◌↔◌};
 ghost use Rattle.record.specs.Network.{document01};
 
-use check::same;
 use record::{Guest, Network};
 
 const NETWORK: Network = Network {
@@ -22,27 +21,11 @@ pub fn network() -> Network
 pub fn same_record(a: Guest, b: Guest) -> bool
     ensures { (result ≡ true) ↔ (a ≡ b) }
 {
-    let mac = a.mac;
-    let other_mac = b.mac;
-    let network = a.network;
-    let other_network = b.network;
-    same(&mac, &other_mac)
-        & (a.id == b.id)
-        & (a.xid == b.xid)
-        & same_network(network, other_network)
+    (a.mac == b.mac) & (a.id == b.id) & (a.xid == b.xid) & same_network(a.network, b.network)
 }
 
 pub fn same_network(a: Network, b: Network) -> bool
     ensures { (result ≡ true) ↔ (a ≡ b) }
 {
-    let gateway = a.gateway;
-    let other_gateway = b.gateway;
-    let guest = a.guest;
-    let other_guest = b.guest;
-    let mask = a.mask;
-    let other_mask = b.mask;
-    same(&gateway, &other_gateway)
-        & same(&guest, &other_guest)
-        & same(&mask, &other_mask)
-        & (a.lease == b.lease)
+    (a.gateway == b.gateway) & (a.guest == b.guest) & (a.mask == b.mask) & (a.lease == b.lease)
 }

@@ -2,9 +2,10 @@
 ghost use Rattle.std.specs.Prelude.{◌≡◌, ◌≤◌, length};
 ghost use Rattle.vectors.specs.Count.{empty, counted_in};
 
-const ROWS: usize = 32;
+use crate::lines::find;
+use std::io;
 
-const STDOUT: i32 = 1;
+const ROWS: usize = 32;
 
 #[derive(Clone, Copy)]
 pub struct Tally {
@@ -39,14 +40,14 @@ impl Tally {
 }
 
 // Prints each row that has a case, and the sum of the first `once` rows: those behind them count
-// cases once more. `names` has a line for each row.
-pub fn print(tally: Tally, names: &[u8], once: usize) {
+// cases once more. `names` has a line for each row. A write that fails ends it.
+pub fn print<R: Print>(rt: &R, tally: Tally, names: &[u8], once: usize) -> io::Result<()> {
     let right = tally.right;
     let wrong = tally.wrong;
     for row in 0..ROWS {
-        print_row(name_of(names, row), right[row], wrong[row]);
+        print_row(rt, name_of(names, row), right[row], wrong[row])?;
     }
-    print_counts(total(right, once), total(wrong, once));
+    print_counts(rt, total(right, once), total(wrong, once))
 }
 
 fn total(counts: [u64; 32], once: usize) -> u64 {
@@ -59,26 +60,23 @@ fn total(counts: [u64; 32], once: usize) -> u64 {
     sum
 }
 
-fn print_row(name: &[u8], right: u64, wrong: u64) {
+fn print_row<R: Print>(rt: &R, name: &[u8], right: u64, wrong: u64) -> io::Result<()> {
     if right == 0 && wrong == 0 {
-        return;
+        return Ok(());
     }
-    io::write_all(STDOUT, name);
-    io::write_all(STDOUT, b": ");
-    print_counts(right, wrong);
+    rt.write_all(name)?;
+    rt.write_all(b": ")?;
+    print_counts(rt, right, wrong)
 }
 
-fn print_counts(right: u64, wrong: u64) {
-    io::print_decimal(STDOUT, right);
-    io::write_all(STDOUT, b" agree, ");
-    io::print_decimal(STDOUT, wrong);
-    io::write_all(STDOUT, b" do not\n");
+fn print_counts<R: Print>(rt: &R, right: u64, wrong: u64) -> io::Result<()> {
+    println!(rt; "{right} agree, {wrong} do not")
 }
 
 fn name_of(names: &[u8], row: usize) -> &[u8] {
     let start = behind_lines(names, row);
-    let end = bytes::scan::find(names, start, names.len(), b'\n');
-    &names[start..end]
+    let name = &names[start..];
+    &name[..find(name, b'\n')]
 }
 
 // Where the text goes on behind its first `count` lines.

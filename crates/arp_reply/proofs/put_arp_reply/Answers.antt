@@ -1,6 +1,5 @@
 -- `put_arp_reply` meets its contract: Ethernet's header and the packet, one behind the other.
-use mathlib.Core.Path.{◌≡◌, sym, ◌∙◌}
-use mathlib.Core.List.{List}
+use mathlib.Core.Path.{◌≡◌, sym}
 use native.Mathlib.Omega.{arith}
 use lib.ListN.{length}
 use Rattle.arp_reply.proofs.Lengths.{length_packet, length_reply_to}
@@ -8,7 +7,6 @@ use Rattle.arp_reply.specs.Reply.{reply_to}
 use Rattle.base.proofs.Front.{two_pieces}
 use Rattle.base.proofs.Lists.{no_fit}
 use Rattle.frames.proofs.Lengths.{length_ethernet}
-use borrow.Author.Rules.{rules}
 use Rattle.arp_reply.proofs.put_arp_reply.Goals as goal
 
 pub returns-then-out-lt-FRAME : goal.returns-then-out-lt-FRAME

@@ -2,7 +2,6 @@
 use native.Mathlib.Omega.{arith}
 use mathlib.Core.Path.{sym}
 use Rattle.arp_reply.proofs.Lengths.{packet_bytes}
-use borrow.Author.Rules.{rules}
 use Rattle.arp_reply.proofs.reply_packet.Goals as goal
 
 pub returns : goal.returns

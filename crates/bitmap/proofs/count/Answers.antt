@@ -1,12 +1,11 @@
 -- `count` meets its contract. The invariant: what is found, and what is left to count, are the whole.
-use borrow.Author.Rules.{rules}
-use Prim.Native.Nat.{ℕ, ◌+◌, ◌-◌, ◌/◌, ◌%◌, ◌^◌, ◌≤◌}
+use Prim.Native.Nat.{ℕ, ◌-◌, ◌/◌, ◌%◌, ◌^◌}
 use mathlib.Core.Path.{◌≡◌, ap, ◌∙◌}
 use native.Mathlib.Omega.{arith}
 use lib.Count.{ones_in}
 use Rattle.bitmap.specs.Bitmap.{bit, count}
 use Rattle.bitmap.proofs.Blocks.{count_in_word_of, count_rest}
-use Rattle.bitmap.proofs.WordsLeft.{words_left, words_fall}
+use Rattle.bitmap.proofs.WordsLeft.{words_fall}
 use Rattle.bitmap.proofs.count.Goals as goal
 
 pub loop-at-smaller : goal.loop-at-smaller

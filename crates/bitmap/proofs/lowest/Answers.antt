@@ -3,7 +3,6 @@ use Prim.Native.Nat.{ℕ, ◌-◌, ◌/◌, ◌^◌}
 use mathlib.Core.Path.{ap, ◌∙◌}
 use native.Mathlib.Omega.{arith}
 use lib.Pow.{ones_split, ones_lt, high}
-use borrow.Author.Rules.{rules}
 use Rattle.bitmap.proofs.lowest.Goals as goal
 
 pub returns : goal.returns

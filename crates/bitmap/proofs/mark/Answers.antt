@@ -1,17 +1,16 @@
 -- `mark` meets its contract. The invariant: the blocks before `at` are marked, and no other bit is changed.
-use borrow.Author.Rules.{rules}
-use Prim.Native.Nat.{ℕ, ◌+◌, ◌-◌, ◌*◌, ◌/◌, ◌%◌, ◌^◌, ◌≤◌}
+use Prim.Native.Nat.{ℕ, ◌*◌, ◌/◌, ◌%◌, ◌^◌}
 use mathlib.Core.Path.{◌≡◌, refl, sym, ap, ◌∙◌}
 use native.Mathlib.Nat.{le_refl}
-use borrow.Author.Tests.{leb-true, le-leb, not-true, not-false}
+use borrow.Author.Tests.{leb-true, le-leb}
 use native.Mathlib.Omega.{arith}
 use lib.Bits.{bit_or}
 use lib.ListN.{length, get_or, set, length-set}
 use lib.Pow.{shl_exact, ones_lt}
-use Rattle.bitmap.specs.Bitmap.{bit, having}
+use Rattle.bitmap.specs.Bitmap.{bit}
 use Rattle.bitmap.proofs.Digits.{run}
 use Rattle.bitmap.proofs.Blocks.{having_none, marked_to, run_to}
-use Rattle.bitmap.proofs.WordsLeft.{words_left, words_fall}
+use Rattle.bitmap.proofs.WordsLeft.{words_fall}
 use Rattle.bitmap.proofs.mark.Goals as goal
 
 pub returns-then-not-reaches : goal.returns-then-not-reaches

@@ -7,7 +7,6 @@ use lib.Bits.{bit_and, and_mask}
 use lib.Count.{ones, ones_in, ones-le}
 use lib.Pow.{pow_pos}
 use Rattle.bitmap.proofs.Digits.{ones_of_lowest}
-use borrow.Author.Rules.{rules}
 use Rattle.bitmap.proofs.ones.Goals as goal
 
 module _ (word n : ℕ) {mask : ℕ} (e : mask ≡ 2 ^ n - 1) where

@@ -5,7 +5,6 @@ use native.Mathlib.Omega.{arith}
 use borrow.Author.Tests.{ltb-true, ltb-false, le-leb, lt-leb}
 use lib.Dec.{ltb, leb}
 use Rattle.base.proofs.Choice.{by_test}
-use borrow.Author.Rules.{rules}
 use Rattle.bitmap.proofs.reaches.Goals as goal
 
 -- some block, and a word for the last

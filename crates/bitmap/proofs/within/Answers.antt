@@ -1,6 +1,5 @@
 -- `within` meets its contract: it is the lesser of what is left and what the word has.
 use native.Mathlib.Omega.{arith}
-use borrow.Author.Rules.{rules}
 use Rattle.bitmap.proofs.within.Goals as goal
 
 pub returns-then-left-low : goal.returns-then-left-low

@@ -1,7 +1,6 @@
 -- `word_at` meets its contract.
 use mathlib.Core.Path.{sym}
 use lib.ListN.{get_or-eq_default}
-use borrow.Author.Rules.{rules}
 use Rattle.bitmap.proofs.word_at.Goals as goal
 
 pub returns-then-bits-i : goal.returns-then-bits-i

@@ -3,7 +3,6 @@ use Prim.Native.Nat.{ℕ, ◌+◌}
 use mathlib.Core.Path.{◌≡◌, ap, ap₂, ◌∙◌}
 use mathlib.Core.List.{List}
 use native.Mathlib.Nat.{zero-add}
-use borrow.Author.Rules.{rules}
 use Rattle.sums.specs.Rfc1071.{total, fold}
 use Rattle.sums.proofs.Laws.{fold_fold}
 use Rattle.wire.specs.Rfc768.{datagram_header, pseudo_header_lem}

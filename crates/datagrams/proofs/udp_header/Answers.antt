@@ -1,7 +1,6 @@
 -- `udp_header` meets its contract: the sum's complement, as it is transmitted, goes into the checksum's field.
 use Prim.Native.Nat.{ℕ, ◌-◌}
 use mathlib.Core.Path.{◌≡◌, ap, ◌∙◌}
-use borrow.Author.Rules.{rules}
 use Rattle.wire.specs.Rfc768.{datagram_header, transmitted}
 use Rattle.datagrams.proofs.udp_header.Goals as goal
 

@@ -1,7 +1,6 @@
 -- `put_echo` meets its contract: four bytes, and the request's others behind them.
 use Rattle.base.proofs.Lists.{from_on}
 use Rattle.echo_reply.proofs.Echo.{echo_put}
-use borrow.Author.Rules.{rules}
 use Rattle.echo_reply.proofs.put_echo.Goals as goal
 
 pub returns : goal.returns

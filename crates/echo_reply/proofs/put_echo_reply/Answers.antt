@@ -3,7 +3,6 @@ use mathlib.Core.Path.{◌≡◌, sym}
 use native.Mathlib.Omega.{arith}
 use lib.ListN.{length}
 use Rattle.echo_reply.proofs.Echo.{no_checksum, too_long, no_room, framed}
-use borrow.Author.Rules.{rules}
 use Rattle.echo_reply.proofs.put_echo_reply.Goals as goal
 
 pub returns-then-len-lt-CHANGED : goal.returns-then-len-lt-CHANGED

@@ -4,7 +4,6 @@ use mathlib.Core.Bool.{not}
 use native.Mathlib.Omega.{arith}
 use Prim.Native.Nat.{◌-◌, ◌^◌, ◌≤◌}
 use mathlib.Core.Path.{◌≡◌, sym, ◌∙◌}
-use borrow.Author.Rules.{rules}
 use lib.Count.{ones}
 use Rattle.base.proofs.Telling.{tells_not, tells_yes}
 use Rattle.good_network.specs.Good.{size}

@@ -1,12 +1,8 @@
 -- `options::message_type` meets its contract. The invariant: the walk at the place that the scan has come to is the whole walk.
-use Prim.Native.Nat.{ℕ, ◌+◌, ◌-◌}
+use Prim.Native.Nat.{ℕ, ◌+◌}
 use mathlib.Core.Bool.{false}
-use mathlib.Core.Logic.{⊎_elim}
 use mathlib.Core.Path.{◌≡◌, refl, ap, sym, ◌∙◌}
 use native.Mathlib.Omega.{arith}
-use borrow.Author.Rules.{rules}
-use borrow.Author.Tests.{leb-true, leb-false}
-use lib.ListN.{length}
 use Rattle.options.specs.Rfc2132.{decides, walk}
 use Rattle.base.specs.Bytes.{u8_at}
 use Rattle.options.proofs.Sentences.{another_code, no_value}

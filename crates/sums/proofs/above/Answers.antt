@@ -1,5 +1,5 @@
 -- `above` meets its contract: a number shifted past another has no digit in common with it.
-use Rattle.std.proofs.Common.{ℕ, ◌+◌, ◌*◌, ◌^◌, ◌<◌, sym, ap, ◌∙◌, subst, add_comm, arith, shl_exact, rules}
+use Rattle.std.proofs.Common.{ℕ, ◌+◌, ◌*◌, ◌^◌, ◌<◌, sym, ap, ◌∙◌, subst, add_comm, arith, shl_exact}
 use lib.Arith.{digits_lt}
 use lib.Bits.{bit_or, or_shifted_r}
 use Rattle.sums.proofs.above.Goals as goal

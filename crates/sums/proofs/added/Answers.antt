@@ -1,5 +1,5 @@
 -- `added` meets its contract: two words have one carry at most.
-use Rattle.std.proofs.Common.{arith, rules}
+use Rattle.std.proofs.Common.{arith}
 use Rattle.sums.proofs.Folding.{folded_once}
 use Rattle.sums.proofs.added.Goals as goal
 

@@ -1,5 +1,5 @@
 -- `eight_at` meets its contract: each byte is above those before it.
-use Rattle.std.proofs.Common.{◌≡◌, ℕ, ◌+◌, ◌*◌, ◌/◌, ◌%◌, ◌^◌, get_or, ap, ◌∙◌, add_assoc, arith, rules}
+use Rattle.std.proofs.Common.{◌≡◌, ℕ, ◌+◌, ◌*◌, ◌/◌, ◌%◌, ◌^◌, get_or, ap, ◌∙◌, add_assoc, arith}
 use lib.Pow.{high, low}
 use Rattle.sums.proofs.eight_at.Goals as goal
 

@@ -1,10 +1,8 @@
 -- `eights_behind` meets its contract. The invariant: there is a sum of the lower halves, which the sum of all tells; 256 times the sums so far and the
 -- sum of what is left fold as the whole; and each is as large as as many halves can be at most, the lower ones with what was there before.
-use Rattle.std.proofs.Common.{◌≡◌, ℕ, ◌+◌, ◌-◌, ◌*◌, ◌/◌, ◌%◌, ◌^◌, ◌<◌, ◌≤◌, List, length, drop, sym, ap, ◌∙◌, arith, rules}
-use Rattle.sums.specs.Folding.{most_behind, most_upper}
+use Rattle.std.proofs.Common.{◌≡◌, ℕ, ◌+◌, ◌*◌, ◌/◌, ◌%◌, ◌^◌, ◌<◌, length, drop, sym, ap, ◌∙◌, arith, rules}
 use Rattle.sums.specs.Rfc1071.{total, fold}
 use Rattle.sums.proofs.Laws.{fold_eight}
-use Rattle.sums.proofs.eights_behind.Invariants.{Halves}
 use Rattle.sums.proofs.eights_behind.Goals as goal
 
 -- what is carried out of the sum of all is lost, and the sum of the lower halves is not

@@ -1,5 +1,5 @@
 -- `exchanged` meets its contract: the two bytes of a word exchanged are 256 times it, folded.
-use Rattle.std.proofs.Common.{arith, rules}
+use Rattle.std.proofs.Common.{arith}
 use Rattle.sums.proofs.Laws.{fold_exchanged}
 use Rattle.sums.proofs.exchanged.Goals as goal
 

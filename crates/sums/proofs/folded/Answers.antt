@@ -1,5 +1,5 @@
 -- `folded` meets its contract: no fold to 32 bits changes RFC 1071's fold.
-use Rattle.std.proofs.Common.{ap, ◌∙◌, rules}
+use Rattle.std.proofs.Common.{ap, ◌∙◌}
 use Rattle.sums.specs.Folding.{fold_to32}
 use Rattle.sums.specs.Rfc1071.{fold}
 use Rattle.sums.proofs.Folding.{fold_to_32}

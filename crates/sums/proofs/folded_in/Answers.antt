@@ -1,5 +1,5 @@
 -- `folded_in` meets its contract: the fold of the sum, and the most that it leaves.
-use Rattle.std.proofs.Common.{ℕ, ◌+◌, ◌≤◌, sym, ap, ◌∙◌, subst, arith, rules}
+use Rattle.std.proofs.Common.{ℕ, ◌+◌, ◌≤◌, sym, ap, ◌∙◌, subst, arith}
 use Rattle.sums.specs.Folding.{fold_to32, most_folded}
 use Rattle.sums.proofs.Folding.{folded_in_most}
 use Rattle.sums.proofs.folded_in.Goals as goal

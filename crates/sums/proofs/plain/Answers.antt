@@ -1,5 +1,5 @@
 -- `plain` meets its contract. The invariant: what is folded so far and the sum of what is left fold as the whole.
-use Rattle.std.proofs.Common.{◌≡◌, ℕ, ◌+◌, ◌-◌, ◌/◌, ◌≤◌, length, drop, sym, ap, ◌∙◌, arith, rules}
+use Rattle.std.proofs.Common.{ℕ, ◌+◌, drop, sym, ap, ◌∙◌, arith}
 use Rattle.sums.specs.Rfc1071.{total, fold}
 use Rattle.sums.proofs.Laws.{fold_fold, fold_small, total_step, total_last, total_none}
 use Rattle.sums.proofs.plain.Goals as goal

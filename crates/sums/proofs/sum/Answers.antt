@@ -1,6 +1,6 @@
 -- `sums::sum` meets its contract. The invariant: 256 times what is folded so far and the sum of what is left fold as the whole.
-use Rattle.std.proofs.Common.{◌≡◌, ℕ, ◌+◌, ◌-◌, ◌*◌, ◌/◌, ◌%◌, ◌^◌, ◌≤◌, length, drop, sym, ap, ◌∙◌, le_of_eq, add-zero, arith, length-drop, take_all, rules}
-use Rattle.sums.specs.Folding.{fold_to32, longest_piece, most_folded}
+use Rattle.std.proofs.Common.{ℕ, ◌+◌, ◌-◌, ◌*◌, ◌/◌, ◌%◌, ◌^◌, length, drop, sym, ap, ◌∙◌, le_of_eq, add-zero, arith, length-drop, take_all, rules}
+use Rattle.sums.specs.Folding.{fold_to32}
 use Rattle.sums.specs.Rfc1071.{total, fold}
 use Rattle.sums.proofs.Folding.{fold_to_32_scaled}
 use Rattle.sums.proofs.Laws.{fold_eight, fold_scaled, fold_few_rounds}

@@ -1,5 +1,5 @@
 -- `total_behind` meets its contract: the eights first, and behind them the tail.
-use Rattle.std.proofs.Common.{ℕ, ◌+◌, ◌-◌, ◌*◌, ◌/◌, length, drop, ap, ◌∙◌, le_of_eq, arith, length-drop, take_all, rules}
+use Rattle.std.proofs.Common.{ℕ, ◌+◌, ◌-◌, ◌*◌, ◌/◌, length, drop, ap, ◌∙◌, le_of_eq, arith, length-drop, take_all}
 use Rattle.sums.specs.Rfc1071.{total, fold}
 use Rattle.sums.proofs.total_behind.Goals as goal
 

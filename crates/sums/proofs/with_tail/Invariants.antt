@@ -1,7 +1,6 @@
 -- `with_tail` meets its contract. The invariant: 256 times the running total and the sum of what is left fold as the whole, and it has grown by 65,535 a word at most.
-use Rattle.std.proofs.Common.{◌≡◌, ℕ, ◌+◌, ◌-◌, ◌*◌, ◌/◌, ◌≤◌, length, get_or, drop, ap, ◌∙◌, arith, rules}
+use Rattle.std.proofs.Common.{◌≡◌, ◌+◌, ◌-◌, ◌*◌, ◌/◌, ◌≤◌, length, drop}
 use Rattle.sums.specs.Rfc1071.{total, fold}
-use Rattle.sums.proofs.Laws.{fold_two, total_last, total_none}
 use Rattle.sums.proofs.with_tail.Given as goal
 
 abbrev pub invariant-loop-i : goal.invariant-loop-i

@@ -1,7 +1,5 @@
 -- `tcp::make_tcp_frame` meets its contract: the segment is put at 34 and framed in place.
-use mathlib.Core.Path.{sym, ◌∙◌}
 use native.Mathlib.Omega.{arith}
-use lib.ListN.{length-map}
 use Rattle.tcp.specs.Rfc9293.{segment, tcp_frame}
 use Rattle.record.proofs.Built.{refused_too_long, refused_no_room}
 use Rattle.frames.proofs.Framed.{framed_there}

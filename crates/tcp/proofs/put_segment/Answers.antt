@@ -8,7 +8,6 @@ use lib.Seq.{length-take-le}
 use Rattle.base.specs.Buffer.{put}
 use Rattle.tcp.specs.Rfc9293.{syn_options, segment}
 use Rattle.tcp.proofs.TcpLaws.{options_take}
-use borrow.Author.Rules.{rules}
 use Rattle.tcp.proofs.put_segment.Goals as goal
 
 pub slice_bounds-options-end : goal.slice_bounds-options-end

@@ -1,7 +1,7 @@
 -- `write::put` meets its contract: a copy into the part of the buffer, said of the whole, where there is room for it.
-use Rattle.std.proofs.Common.{◌≡◌, ℕ, ◌+◌, ◌-◌, ◌≤◌, List, ◌++◌, length, take, drop, append_assoc, arith, sym, ◌∙◌}
+use Rattle.std.proofs.Common.{◌≡◌, ℕ, ◌+◌, List, ◌++◌, length, take, drop, append_assoc, arith, sym, ◌∙◌}
 use lib.Seq.{drop-drop}
-use Rattle.base.specs.Buffer.{put, put_if_fits}
+use Rattle.base.specs.Buffer.{put}
 use Rattle.base.proofs.Lists.{fits, no_fit}
 use Rattle.base.proofs.write.put.Goals as goal
 

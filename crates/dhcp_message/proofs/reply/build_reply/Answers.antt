@@ -3,7 +3,6 @@ use mathlib.Core.Path.{◌∙◌}
 use Rattle.base.proofs.Lists.{put_front}
 use Rattle.dhcp_message.specs.Message.{reply}
 use Rattle.record.proofs.Fitting.{does_not_fit, does_fit}
-use borrow.Author.Rules.{rules}
 use Rattle.dhcp_message.proofs.reply.build_reply.Goals as goal
 
 pub returns-then-out-lt-REPLY_LENGTH : goal.returns-then-out-lt-REPLY_LENGTH

@@ -1,7 +1,6 @@
 -- `reply::first_fields` meets its contract: each address is its bytes.
 use native.Mathlib.Omega.{arith}
 use Rattle.base.proofs.Lists.{all_bytes_lem}
-use borrow.Author.Rules.{rules}
 use Rattle.dhcp_message.proofs.reply.first_fields.Goals as goal
 
 pub returns : goal.returns

@@ -3,7 +3,6 @@ use mathlib.Core.Path.{refl}
 use native.Mathlib.Omega.{arith}
 use Rattle.base.proofs.Front.{nothing_yet, behind, behind_as}
 use Rattle.dhcp_message.specs.helpers.Pieces.{fixed_part}
-use borrow.Author.Rules.{rules}
 use Rattle.dhcp_message.proofs.reply.put_fixed_part.Goals as goal
 
 pub returns : goal.returns

@@ -1,7 +1,7 @@
 -- `reply::put_reply` meets its contract: the reply has 300 bytes, so it is written exactly where it fits.
 use mathlib.Core.Path.{◌≡◌, sym, ◌∙◌}
 use native.Mathlib.Omega.{arith}
-use lib.ListN.{length, length-map}
+use lib.ListN.{length}
 use Rattle.base.proofs.Lists.{fits, no_fit}
 use Rattle.dhcp_message.proofs.ReadBack.{reply_reads_back}
 use Rattle.record.specs.Network.{FourBytes}

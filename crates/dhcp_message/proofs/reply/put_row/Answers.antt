@@ -2,7 +2,6 @@
 use mathlib.Core.Path.{◌∙◌}
 use native.Mathlib.Omega.{arith}
 use Rattle.base.proofs.Lists.{all_bytes_lem}
-use borrow.Author.Rules.{rules}
 use Rattle.dhcp_message.proofs.reply.put_row.Goals as goal
 
 pub returns : goal.returns

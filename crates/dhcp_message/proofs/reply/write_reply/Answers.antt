@@ -1,10 +1,9 @@
 -- `reply::write_reply` meets its contract: the fixed part, then eight pieces, each right behind the one before it.
-use mathlib.Core.Path.{refl, ◌∙◌}
+use mathlib.Core.Path.{refl}
 use native.Mathlib.Omega.{arith}
 use Rattle.dhcp_message.specs.helpers.Pieces.{written}
 use Rattle.base.proofs.Front.{behind}
 use Rattle.dhcp_message.proofs.Pieces.{fixed_front}
-use borrow.Author.Rules.{rules}
 use Rattle.dhcp_message.proofs.reply.write_reply.Goals as goal
 
 pub returns : goal.returns

@@ -5,7 +5,6 @@ use mathlib.Core.Path.{ap, ap₂, ◌∙◌}
 use Rattle.base.specs.Buffer.{put}
 use Rattle.dhcp_message.proofs.Pieces.{reply_pieces}
 use Rattle.dhcp_message.specs.helpers.Pieces.{written}
-use borrow.Author.Rules.{rules}
 use Rattle.dhcp_message.proofs.reply.write_reply_of.Goals as goal
 
 pub returns : goal.returns

@@ -1,7 +1,7 @@
 -- `frame::put_dhcp_reply` meets its contract: the reply, UDP's header in front of it, and the headers in front of both make the frame.
-use mathlib.Core.Path.{◌≡◌, refl, sym, ◌∙◌}
+use mathlib.Core.Path.{◌≡◌, refl, sym}
 use native.Mathlib.Omega.{arith}
-use lib.ListN.{length, length-map}
+use lib.ListN.{length}
 use Rattle.base.proofs.Lists.{no_fit}
 use Rattle.dhcp_reply.proofs.FramePieces.{length_dhcp_frame_to, frame_put}
 use Rattle.record.specs.Network.{FourBytes}

@@ -1,6 +1,5 @@
 -- `ethernet::ethernet_header` meets its contract: byte by byte the literal is the definition.
 use native.Mathlib.Omega.{arith}
-use borrow.Author.Rules.{rules}
 use Rattle.base.proofs.Lists.{all_bytes_lem}
 use Rattle.frames.proofs.ethernet.ethernet_header.Goals as goal
 

@@ -1,7 +1,6 @@
 -- `ipv4::header` meets its contract: the header with a blank checksum is summed, and the sum goes into its field.
 use Prim.Native.Nat.{ℕ}
 use mathlib.Core.Path.{ap, ◌∙◌}
-use borrow.Author.Rules.{rules}
 use Rattle.sums.specs.Rfc1071.{checksum}
 use Rattle.wire.specs.Rfc791.{header, header_with_lem}
 use Rattle.frames.proofs.ipv4.header.Goals as goal

@@ -1,6 +1,5 @@
 -- `ipv4::header_with` meets its contract: byte by byte the literal is the definition.
 use native.Mathlib.Omega.{arith}
-use borrow.Author.Rules.{rules}
 use Rattle.wire.specs.Rfc791.{header_with_lem}
 use Rattle.base.proofs.Lists.{all_bytes_lem}
 use Rattle.frames.proofs.ipv4.header_with.Goals as goal

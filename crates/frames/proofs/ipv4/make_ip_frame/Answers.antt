@@ -1,7 +1,6 @@
 -- `ipv4::make_ip_frame` meets its contract: the payload is put at 34 and framed in place.
 use mathlib.Core.Path.{refl, ◌∙◌}
 use native.Mathlib.Omega.{arith}
-use borrow.Author.Rules.{rules}
 use Rattle.base.proofs.Lists.{fits}
 use Rattle.frames.proofs.Framed.{framed_there}
 use Rattle.record.proofs.Built.{refused_too_long, refused_no_room}

@@ -7,7 +7,6 @@ use Rattle.base.proofs.Lists.{fits}
 use Rattle.frames.proofs.Framed.{framed}
 use Rattle.frames.proofs.Lengths.{length_headers}
 use Rattle.record.proofs.Built.{refused_too_long, refused_no_room, built}
-use borrow.Author.Rules.{rules}
 use Rattle.frames.proofs.ipv4.make_ip_frame_in_place.Goals as goal
 
 pub returns-then-len-gt-PAYLOAD_LIMIT : goal.returns-then-len-gt-PAYLOAD_LIMIT

@@ -5,7 +5,6 @@ use lib.ListN.{length}
 use Rattle.base.proofs.Lists.{no_fit}
 use Rattle.base.proofs.Front.{two_pieces}
 use Rattle.frames.proofs.Lengths.{length_ethernet, length_header, length_headers}
-use borrow.Author.Rules.{rules}
 use Rattle.frames.proofs.ipv4.put_headers.Goals as goal
 
 pub returns-then-out-lt-PAYLOAD_AT : goal.returns-then-out-lt-PAYLOAD_AT

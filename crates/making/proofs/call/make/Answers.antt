@@ -2,7 +2,6 @@
 use mathlib.Core.Path.{ap}
 use mathlib.Core.Bool.{not}
 use mathlib.Core.Path.{refl}
-use borrow.Author.Rules.{rules}
 use Rattle.base.proofs.Telling.{tells_not, tells_yes}
 use Rattle.making.specs.Making.{made, refused, paper}
 use Rattle.making.proofs.call.make.Goals as goal

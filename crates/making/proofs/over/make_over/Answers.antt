@@ -1,6 +1,5 @@
 -- `make_over` meets its contract, answer by answer: where none is made the old record stands.
 use Rattle.making.proofs.Lent.{stored_new, left_old}
-use borrow.Author.Rules.{rules}
 use Rattle.making.proofs.over.make_over.Goals as goal
 
 pub returns-in-Made : goal.returns-in-Made

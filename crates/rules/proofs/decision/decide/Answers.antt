@@ -4,7 +4,6 @@ use borrow.Author.Tests.{lt-ltb, le-ltb, eq-eqb, ne_eqb}
 use lib.ListN.{length}
 use Rattle.wire.specs.Rfc894.{type_of}
 use Rattle.rules.specs.Rules.{decision}
-use borrow.Author.Rules.{rules}
 use Rattle.rules.proofs.decision.decide.Goals as goal
 
 pub returns-then-frame-lt-HEADER : goal.returns-then-frame-lt-HEADER

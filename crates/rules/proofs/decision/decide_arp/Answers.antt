@@ -3,14 +3,13 @@ use Prim.Native.Nat.{ℕ}
 use mathlib.Core.Path.{◌≡◌, sym, ap, ◌∙◌}
 use mathlib.Core.Bool.{true, false}
 use mathlib.Core.List.{List}
-use borrow.Author.Tests.{lt-ltb, le-ltb, eq-eqb, ne_eqb, not-true, not-false}
+use borrow.Author.Tests.{lt-ltb, le-ltb, eq-eqb, ne_eqb}
 use lib.ListN.{length}
 use lib.Seq.{get_or-drop}
 use Rattle.wire.specs.Rfc826.{operation, sought_address}
 use Rattle.wire.specs.Rfc894.{body}
 use Rattle.rules.specs.Rules.{arp_decision}
 use Rattle.rules.specs.Same.{same}
-use borrow.Author.Rules.{rules}
 use Rattle.rules.proofs.decision.decide_arp.Goals as goal
 
 pub returns-then-frame-lt-ARP_FRAME : goal.returns-then-frame-lt-ARP_FRAME

@@ -5,7 +5,6 @@ use lib.ListN.{length}
 use Rattle.wire.specs.Rfc2131.{operation, magic_cookie}
 use Rattle.rules.specs.Rules.{dhcp_decision, type_decision}
 use Rattle.rules.specs.declared.decision.Decision.TheVariants.{DropNoting}
-use borrow.Author.Rules.{rules}
 use Rattle.rules.proofs.decision.decide_dhcp.Goals as goal
 
 pub returns-then-message-lt-FIXED : goal.returns-then-message-lt-FIXED

@@ -3,14 +3,12 @@ use Prim.Native.Nat.{ℕ, ◌+◌, ◌-◌}
 use mathlib.Core.Path.{◌≡◌, sym, ap, ◌∙◌}
 use mathlib.Core.List.{List}
 use native.Mathlib.Omega.{arith}
-use borrow.Author.Tests.{not-true, not-false}
 use lib.ListN.{length}
 use Rattle.base.specs.Bytes.{u8_at}
 use Rattle.rules.specs.Rules.{payload_at_lem}
 use Rattle.rules.specs.Same.{same}
 use Rattle.rules.specs.declared.decision.Decision.TheVariants.{EchoReply}
 use Rattle.rules.proofs.Ping.{not_ours, starts_past, no_header, no_request, over_limit, within_limit}
-use borrow.Author.Rules.{rules}
 use Rattle.rules.proofs.decision.decide_icmp.Goals as goal
 
 pub returns-then-not-same : goal.returns-then-not-same

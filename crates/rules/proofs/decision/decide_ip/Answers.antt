@@ -5,7 +5,6 @@ use lib.ListN.{length}
 use Rattle.wire.specs.Rfc791.{protocol_of}
 use Rattle.wire.specs.Rfc894.{body}
 use Rattle.rules.specs.Rules.{ip_decision}
-use borrow.Author.Rules.{rules}
 use Rattle.rules.proofs.decision.decide_ip.Goals as goal
 
 pub returns-then-frame-lt-IP_FRAME : goal.returns-then-frame-lt-IP_FRAME

@@ -5,7 +5,6 @@ use Rattle.options.specs.Found.{walked_as}
 use Rattle.options.specs.declared.Found.{Found}
 use Rattle.rules.specs.Rules.{type_decision}
 use Rattle.rules.specs.declared.decision.Decision.TheVariants.{DhcpReply}
-use borrow.Author.Rules.{rules}
 use Rattle.rules.proofs.decision.decide_type.Goals as goal
 
 pub returns-then-kind-eq0 : goal.returns-then-kind-eq0

@@ -11,7 +11,6 @@ use Rattle.rules.specs.Rules.{payload_at_lem, dhcp_decision}
 use Rattle.rules.specs.Same.{same}
 use Rattle.rules.specs.declared.decision.Decision.TheVariants.{Dns, Relay}
 use Rattle.rules.proofs.Datagram.{udp_past, udp_short, udp_stated, udp_dhcp, udp_dns, udp_relay}
-use borrow.Author.Rules.{rules}
 use Rattle.rules.proofs.decision.decide_udp.Goals as goal
 
 pub returns-then-frame-header : goal.returns-then-frame-header

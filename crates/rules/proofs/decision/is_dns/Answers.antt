@@ -1,7 +1,5 @@
 -- `decision::is_dns` meets its contract: the address, then the port.
 use mathlib.Core.Path.{sym, ◌∙◌}
-use borrow.Author.Tests.{not-true, not-false}
-use borrow.Author.Rules.{rules}
 use Rattle.rules.proofs.decision.is_dns.Goals as goal
 
 pub returns-then-not-same : goal.returns-then-not-same

@@ -1,7 +1,6 @@
 -- `decision::same` meets its contract: byte by byte, up to the first that differs.
 use native.Mathlib.Omega.{arith}
 use Rattle.rules.proofs.Same.{first_differs, second_differs, third_differs, fourth_decides}
-use borrow.Author.Rules.{rules}
 use Rattle.rules.proofs.decision.same.Goals as goal
 
 pub returns-then-a-b : goal.returns-then-a-b

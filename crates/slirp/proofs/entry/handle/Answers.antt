@@ -5,7 +5,6 @@ use Rattle.record.specs.declared.guest.Guest.{Guest}
 use Rattle.record.specs.declared.answer.Verdict.TheVariants.{Drop}
 use Rattle.rules.specs.Rules.{outcome_of}
 use Rattle.slirp.proofs.Decided.{as_decided, left_alone, request_inside}
-use borrow.Author.Rules.{rules}
 use Rattle.slirp.proofs.entry.handle.Goals as goal
 
 pub handle_icmp-requires : goal.handle_icmp-requires

@@ -1,6 +1,6 @@
 -- `replies::handle_arp` meets its contract: with room the reply is put at the buffer's front.
 use Prim.Native.Nat.{ℕ}
-use mathlib.Core.Path.{◌≡◌, refl, ap, ap₂, sym, ◌∙◌}
+use mathlib.Core.Path.{◌≡◌, refl, ap, ap₂, ◌∙◌}
 use mathlib.Core.List.{List}
 use lib.ListN.{length}
 use lib.Seq.{get_or-drop}

@@ -1,8 +1,8 @@
 -- `replies::handle_dhcp` meets its contract: with room the frame is put at the buffer's front.
 use Prim.Native.Nat.{ℕ}
-use mathlib.Core.Path.{◌≡◌, refl, ap, sym, ◌∙◌}
+use mathlib.Core.Path.{◌≡◌, refl, ap, ◌∙◌}
 use mathlib.Core.List.{List}
-use lib.ListN.{length, length-map}
+use lib.ListN.{length}
 use Rattle.base.specs.Buffer.{put_if_fits}
 use Rattle.dhcp_reply.proofs.FramePieces.{length_dhcp_frame_to}
 use Rattle.dhcp_reply.specs.Reply.{dhcp_frame_to}

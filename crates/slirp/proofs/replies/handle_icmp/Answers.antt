@@ -1,9 +1,9 @@
 -- `replies::handle_icmp` meets its contract: with room the echo's frame is put at the buffer's front.
 use Prim.Native.Nat.{ℕ, ◌+◌, ◌-◌, ◌≤◌}
-use mathlib.Core.Path.{◌≡◌, refl, ap, ap₂, sym, ◌∙◌}
+use mathlib.Core.Path.{◌≡◌, refl, ap, ap₂, ◌∙◌}
 use mathlib.Core.List.{List}
 use native.Mathlib.Omega.{arith}
-use lib.ListN.{length, take, drop, length-drop, length-map}
+use lib.ListN.{length, take, drop, length-drop}
 use Rattle.base.proofs.Lists.{from_on}
 use Rattle.echo_reply.proofs.Echo.{there, long}
 use Rattle.echo_reply.specs.Reply.{put_echo_lem}

@@ -2,7 +2,6 @@
 use mathlib.Core.Path.{sym, ◌∙◌}
 use mathlib.Core.List.{[], ◌∷◌}
 use Rattle.wire.proofs.Reading.{four_bytes, zeros_past_end}
-use borrow.Author.Rules.{rules}
 use Rattle.wire.proofs.bytes.address_at.Goals as goal
 
 pub returns-then-buf-at : goal.returns-then-buf-at

@@ -1,6 +1,5 @@
 -- `byte_at` meets its contract: past the end a byte reads as 0.
 use mathlib.Core.Path.{sym}
-use borrow.Author.Rules.{rules}
 use Rattle.wire.proofs.Reading.{past_end}
 use Rattle.wire.proofs.bytes.byte_at.Goals as goal
 

@@ -1,7 +1,6 @@
 -- `u32be` meets its contract: past the end all four bytes read as 0.
 use Prim.Native.Nat.{◌+◌}
 use native.Mathlib.Omega.{arith}
-use borrow.Author.Rules.{rules}
 use Rattle.wire.proofs.Reading.{past_end}
 use Rattle.wire.proofs.bytes.u32be.Goals as goal
 

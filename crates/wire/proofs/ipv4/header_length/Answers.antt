@@ -1,5 +1,4 @@
 -- `header_length` meets its contract: the mask leaves the low four bits, and the shift multiplies by four.
-use borrow.Author.Rules.{rules}
 use native.Mathlib.Omega.{arith}
 use native.Mathlib.Nat.{add-zero, lt_of_le_of_lt}
 use lib.Bits.{and_mask, and_le_l}

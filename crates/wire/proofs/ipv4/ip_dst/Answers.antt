@@ -1,6 +1,5 @@
 -- `ip_dst` meets its contract: a packet's byte is the frame's, 14 further on.
 use lib.Seq.{get_or-drop}
-use borrow.Author.Rules.{rules}
 use Rattle.wire.proofs.ipv4.ip_dst.Goals as goal
 
 pub returns : goal.returns

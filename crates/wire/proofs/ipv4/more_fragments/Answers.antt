@@ -1,7 +1,6 @@
 -- `more_fragments` meets its contract: the field is the packet's.
 use mathlib.Core.Path.{ap, ◌∙◌}
 use Rattle.wire.specs.Rfc791.{more_fragments_lem, more_in_lem}
-use borrow.Author.Rules.{rules}
 use Rattle.wire.proofs.ipv4.more_fragments.Goals as goal
 
 pub returns : goal.returns

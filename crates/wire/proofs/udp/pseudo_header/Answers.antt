@@ -1,6 +1,5 @@
 -- `udp::pseudo_header` meets its contract: byte by byte the literal is the definition.
 use native.Mathlib.Omega.{arith}
-use borrow.Author.Rules.{rules}
 use Rattle.wire.specs.Rfc768.{pseudo_header_lem}
 use Rattle.base.proofs.Lists.{all_bytes_lem}
 use Rattle.wire.proofs.udp.pseudo_header.Goals as goal

@@ -1,5 +1,5 @@
 -- `Guest::spend` meets its contract: the sum that wraps at 16 bits is the id moved on.
-use Rattle.std.proofs.Common.{ℕ, ap, rules}
+use Rattle.std.proofs.Common.{ℕ, ap}
 use Rattle.record.specs.Guest.{with_id}
 use Rattle.record.proofs.guest.Guest.spend.Goals as goal
 

@@ -1,5 +1,5 @@
 -- `Network::broadcast` meets its contract: the two numbers are the address's and the mask's.
-use Rattle.std.proofs.Common.{ℕ, ◌∙◌, ap₂, rules}
+use Rattle.std.proofs.Common.{ℕ, ◌∙◌, ap₂}
 use Rattle.base.specs.Bytes.{be32}
 use Rattle.record.specs.Network.{broadcast}
 use Rattle.record.proofs.network.Network.broadcast.Goals as goal
