@@ -16,11 +16,15 @@ use input::read_full;
 use std::io;
 use vectors::Tally;
 
+// The largest input, with a byte to spare.
+const TEXT_ROOM: usize = 1048576;
+
 const LONGEST_LINE: usize = 66000;
 
 fn main(rt: HostRuntime) -> io::Result<()> {
-    let mut text = spaces::largest_text();
-    let n = read_full(&mut rt.reader(), &mut text)?;
+    let mut text_space = vectors::large_space();
+    let text = vectors::front(&mut text_space, TEXT_ROOM);
+    let n = read_full(&mut rt.reader(), text)?;
     if n == text.len() {
         return println!(rt; "input over 1048575");
     }
@@ -30,7 +34,7 @@ fn main(rt: HostRuntime) -> io::Result<()> {
     let mut ends = spaces::most_items();
     rows::print(
         &rt,
-        replayed(vectors::part(&text, 0, n), line, &mut pool, &mut ends),
+        replayed(vectors::part(text, 0, n), line, &mut pool, &mut ends),
     )
 }
 

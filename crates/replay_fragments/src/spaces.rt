@@ -2,13 +2,6 @@
 // all its users need.
 ghost use Rattle.std.specs.Prelude.{◌≡◌, length};
 
-// The largest input, with a byte to spare.
-pub fn largest_text() -> [u8; 1048576]
-    ensures { 1048576 ≡ length result }
-{
-    [0; 1048576]
-}
-
 // All frames and payloads of a train.
 pub fn largest_train() -> [u8; 1048576]
     ensures { 1048576 ≡ length result }
