@@ -52,8 +52,8 @@ enum {
     READER_WRITES_PARTS_OUTSIDE,
     READER_WRITES_A_FOURTEENTH_PART,
     READER_REFUSES_DHCP,
-    READER_TAKES_32_KB_MORE,
-    SEND_TAKES_32_KB_MORE,
+    READER_TAKES_64_KB_MORE,
+    SEND_TAKES_64_KB_MORE,
     SHARES_THE_ID,
     BUILDS_IN_SHARED_MEMORY,
 };
@@ -113,8 +113,8 @@ struct {
     {"reader_writes_parts_outside", "guards memory stack_answer"},
     {"reader_writes_a_fourteenth_part", "guards memory"},
     {"reader_refuses_dhcp", "guards memory stack_answer"},
-    {"reader_takes_32_kb_more", "stack_overflow"},
-    {"send_takes_32_kb_more", "stack_overflow"},
+    {"reader_takes_64_kb_more", "stack_overflow"},
+    {"send_takes_64_kb_more", "stack_overflow"},
     {"shares_the_id", "threads"},
     {"builds_in_shared_memory", "threads"},
 };
@@ -149,7 +149,7 @@ uint32_t faulty_yavoledu_make_guest(yavoledu_guest *guest, const uint8_t mac[6],
 }
 
 // Stack that is in use while the function is called. As functions of their own, so that no other fault takes it.
-#define MORE_STACK (32 * 1024)
+#define MORE_STACK (64 * 1024)
 static void use_stack(volatile uint8_t *more) {
     for (size_t at = 0; at < MORE_STACK; at++) spoil(more + at);
 }
@@ -236,7 +236,7 @@ uint32_t faulty_yavoledu_send(yavoledu_guest *guest, const uint8_t *frame, size_
         break;
     case LEAVES_A_BYTE_UNWRITTEN: return with_unwritten_byte(guest, frame, frame_len, reply, reply_len, values);
     case BUILDS_IN_SHARED_MEMORY: return in_shared_memory(guest, frame, frame_len, reply, reply_len, values);
-    case SEND_TAKES_32_KB_MORE: return send_with_more_stack(guest, frame, frame_len, reply, reply_len, values);
+    case SEND_TAKES_64_KB_MORE: return send_with_more_stack(guest, frame, frame_len, reply, reply_len, values);
     case SHARES_THE_ID: return with_shared_id(guest, frame, frame_len, reply, reply_len, values);
     }
     uint32_t number = yavoledu_send(guest, frame, frame_len, reply, reply_len, values);
@@ -301,7 +301,7 @@ uint16_t faulty_yavoledu_checksum(const uint8_t *data, size_t data_len) {
 }
 
 uint32_t faulty_yavoledu_read(const uint8_t *frame, size_t frame_len, size_t parts[13]) {
-    if (hard_fault == READER_TAKES_32_KB_MORE) return read_with_more_stack(frame, frame_len, parts);
+    if (hard_fault == READER_TAKES_64_KB_MORE) return read_with_more_stack(frame, frame_len, parts);
     if (hard_fault == READER_READS_PAST_THE_FRAME) touch(frame + frame_len);
     size_t apart[13];
     if (hard_fault == READER_REFUSES_DHCP && yavoledu_read(frame, frame_len, apart) == YAVOLEDU_KIND_DHCP) return YAVOLEDU_OUTSIDE;

@@ -6,7 +6,7 @@
  *   - what is written is no part of anything else that is lent: a reply does not overlap its frame, nor out its payload, nor a store its frame.
  *     (The id and the MAC of one record, lent to a builder, do not overlap; a record and its own MAC, lent to make it anew, do.)
  * What is lent to be written may hold anything. No function allocates, keeps what it is lent, has data of its own, or
- * calls anything but memcpy and memset; any number of threads may call at once that lend different memory.
+ * calls anything but memcpy, memmove and memset; any number of threads may call at once that lend different memory.
  * yavoledu_read wants 64 kB of stack, every other less than 1 kB. docs/LOOPS.md has the bound of every loop, and how many
  * turns a call takes at most.
  *
@@ -165,7 +165,7 @@ enum {
 
 /* yavoledu_read wants 64 kB of stack (65,536 bytes): call it on a thread that has them. It reads a DHCP list of options by
  * calls inside calls, at most 2,465 deep, and the guest chooses how deep by what it sends. Measured are 39,512 bytes on
- * x86-64, on the deepest list (docs/BENCHMARKS.md); every other call here takes less than 1 kB.
+ * x86-64, on the deepest list (docs/BENCHMARKS.md, of the older kit); every other call here takes less than 1 kB.
  *
  * The strict reader (crates/grammar/specs/Grammar.antt is the grammar): the frame's kind, or YAVOLEDU_OUTSIDE, document
  * 01's 8, on which parts is left as it was. parts has three places for each layer, counted from the frame's first byte:
