@@ -1,5 +1,5 @@
 // Reading until a buffer is full or the input ends.
-ghost use Rattle.std.specs.Prelude.{◌≡◌, ◌<◌, IfOk, OnOk, length, take};
+ghost use Rattle.std.specs.Prelude.{ℕ, ◌<◌, ◌≤◌, IfOk, OnErr, length, take};
 ghost use Rattle.std.specs.Io.{ReadsAtMost};
 ghost use Rattle.std.specs.Io.KnownBytes.{Consumes, IsAtEnd};
 
@@ -7,11 +7,12 @@ use std::io;
 use std::io::Read;
 
 // Reads until `out` is full or the input ends, and says how many bytes it put at the start of `out`:
-// fewer than it holds only at the input's end. A read that fails ends it with that error, and then
-// nothing is said of the bytes in `out`.
+// fewer than it holds only at the input's end. A read that fails ends it with that error, and what
+// was read before stands at the start of `out`.
 pub fn read_full<R: Read>(from: &mut R, out: &mut [u8]) -> io::Result<usize>
     ensures in_bounds { ReadsAtMost result out.new }
     ensures bytes { IfOk result (λ n. Consumes (R.remaining from.old) (R.remaining from.new) (take n out.new)) }
+    ensures left { OnErr result ((n : ℕ) × (n ≤ length out.new) × Consumes (R.remaining from.old) (R.remaining from.new) (take n out.new)) }
     ensures end { IfOk result (λ n. n < length out.new → IsAtEnd (R.remaining from.new)) }
 {
     let mut done = 0;
