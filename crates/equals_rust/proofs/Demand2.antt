@@ -1,7 +1,7 @@
 -- Demand 2 of the gateway: "On every frame where the Rust shown doesn't panic or cut a length to 16 bits, and the buffer has room for the reply, the verdict and reply bytes, and the record after a
 -- drop or reply, equal the Rust's from the same IP id, xid and guest MAC, but where a request of document 02 says otherwise." The Rust is crate `published`: a build without overflow checks.
--- `recordOf` a backend is the record with its id, xid and MAC, on the network of the Rust's text. What document 02 says otherwise is the order of ports in a DHCP reply (2/13) and its UDP checksum (6/13):
--- `amendedIn` puts them into what came of the Rust's run. (1/13: "Demand 2 compares with the Rust for the record of 01's values and with the written definition for every other": the latter is `handle`'s contract.)
+-- `record_of` a backend is the record with its id, xid and MAC, on the network of the Rust's text. What document 02 says otherwise is the order of ports in a DHCP reply (2/13) and its UDP checksum (6/13):
+-- `amended_in` puts them into what came of the Rust's run. (1/13: "Demand 2 compares with the Rust for the record of 01's values and with the written definition for every other": the latter is `handle`'s contract.)
 use Prim.Native.Nat.{ℕ, ◌≤◌, ◌<◌}
 use mathlib.Core.Path.{◌≡◌, refl, ap, sym, subst, ◌∙◌}
 use mathlib.Core.Logic.{◌⊎◌, inl, inr, ◌↔◌}

@@ -1,4 +1,4 @@
--- The shortest frames on which the Rust panics or cuts a length: it does so on them, and on no shorter one (with `rust-panics-exactly` and `rust-cuts-exactly`).
+-- The shortest frames on which the Rust panics or cuts a length: it does so on them, and on no shorter one (with `rust_panics_exactly` and `rust_cuts_exactly`).
 use Prim.Native.Nat.{ℕ, zero, suc, ◌+◌, ◌*◌, ◌%◌, ◌≤◌}
 use mathlib.Core.Path.{◌≡◌, refl, ap, sym, ◌∙◌}
 use mathlib.Core.Logic.{◌⊎◌, inl, inr}

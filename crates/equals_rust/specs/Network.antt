@@ -1,6 +1,6 @@
 -- The network of the published Rust, whose addresses are constants of its text: demand 2 compares with it on a record of these values. They are written
 -- out here, the lease too, so that no default of ours moves the comparison; that the addresses are the text's is proved
--- in `proofs/TheNetwork.antt`, and that the lease is, in `proofs/Lease.antt` (`build-reply-given`).
+-- in `proofs/TheNetwork.antt`, and that the lease is, in `proofs/Lease.antt` (`build_reply_given`).
 use Rattle.std.specs.Prelude.{[], ◌∷◌}
 use Rattle.record.specs.declared.network.Network.{Network}
 

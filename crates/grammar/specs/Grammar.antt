@@ -1,5 +1,5 @@
 -- The frame grammar: document 01, "The frame grammar", each sentence quoted where it is said, but for "Sums right" (`SumsRight`, in Rfc1071) and what is reported (Report). A byte string is a list of numbers;
--- that each is below 256 is the frame's `u8`, and nothing here asks it. `u8_at s n` is the byte n of `s`, 0 past its end; `u16At` and `u32_at` are big-endian. A place is counted from the frame's first byte.
+-- that each is below 256 is the frame's `u8`, and nothing here asks it. `u8_at s n` is the byte n of `s`, 0 past its end; `u16_at` and `u32_at` are big-endian. A place is counted from the frame's first byte.
 -- (`abbrev` and `unfoldable` are for the prover alone.)
 use Rattle.std.specs.Prelude.{ℕ, ◌+◌, ◌*◌, ◌/◌, ◌%◌, ◌≤◌, ◌≡◌, true, false, ◌⊎◌, List, [], ◌∷◌, ◌++◌, eqb, length, take, drop, replicate}
 use Rattle.base.specs.Bytes.{be16, u8_at, u16_at, u32_at, part}

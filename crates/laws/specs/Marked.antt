@@ -1,5 +1,5 @@
 -- The marked cases of document 01 ("Bytes to check"), in one table, and what it means that a row holds; behind them the cases that are not marked. The replies' bytes were taken from the published Rust, but for the ports of D0, which document 02 (2/13) amends,
--- and its last two bytes, which are left out (6/13: "D0's last two bytes are left out of its table and become the checksum of the reply at hand"); `replay` has the same calls among its lines. A row is about the definitions that the contract of `handle` cites; that an answer is the row's follows (`answered-as-in-the-row`).
+-- and its last two bytes, which are left out (6/13: "D0's last two bytes are left out of its table and become the checksum of the reply at hand"); `replay` has the same calls among its lines. A row is about the definitions that the contract of `handle` cites; that an answer is the row's follows (`answered_as_in_the_row`).
 use Rattle.std.specs.Prelude.{ℕ, ◌+◌, ◌-◌, ◌≡◌, List, [], ◌∷◌, ◌++◌, length, take, replicate}
 use Rattle.base.specs.Bytes.{be16}
 use Rattle.record.specs.Guest.{fresh, known}
@@ -84,7 +84,7 @@ behind_checksum type =
     ++ (0xff ∷ [])
     ++ replicate 26 0
 
--- D0's last two bytes: the checksum of the reply at hand, by RFC 768 from 10.0.2.2 to 10.0.2.255. That with them the datagram sums right, and that they aren't 0, is proved (`replies-sum-right`).
+-- D0's last two bytes: the checksum of the reply at hand, by RFC 768 from 10.0.2.2 to 10.0.2.255. That with them the datagram sums right, and that they aren't 0, is proved (`replies_sum_right`).
 abbrev pub its_checksum : (type : ℕ) → List ℕ
 its_checksum type = be16 (checksum_of (0x0a ∷ 0x00 ∷ 0x02 ∷ 0x02 ∷ []) (0x0a ∷ 0x00 ∷ 0x02 ∷ 0xff ∷ []) 0x43 0x44 (behind_checksum type))
 
