@@ -13,7 +13,6 @@ use Rattle.record.specs.Guest.{Settled, Sized, spent}
 use Rattle.record.specs.declared.answer.Answer.{Answer}
 use Rattle.record.specs.declared.guest.Guest.{Guest}
 use Rattle.record.specs.declared.answer.Verdict.{Verdict}
-use Rattle.record.specs.declared.answer.Verdict.TheVariants as Verdict
 use Rattle.record.specs.declared.network.Network.{Network}
 use Rattle.record.proofs.OneAnswer.{paper_one_to_one}
 use Rattle.wire.specs.Rfc792.{echo}

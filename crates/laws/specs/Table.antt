@@ -14,7 +14,6 @@ use Rattle.record.specs.Guest.{Settled, noting}
 use Rattle.rules.specs.Seen.{Message, CutMessage, Query, Outbound, TooLongPing, Segment}
 use Rattle.rules.specs.declared.decision.Decision.{Decision}
 use Rattle.rules.specs.declared.decision.Decision.TheVariants.{DropNoting, ArpReply, EchoReply, DhcpReply}
-use Rattle.rules.specs.declared.decision.Decision.TheVariants as Decision
 
 -- the frame that a decision builds; `[]` where it builds none
 abbrev pub built : Guest → (frame : List ℕ) → Decision → List ℕ

@@ -1,7 +1,6 @@
 -- `read_message` meets its contract: the laws of `MessageRead`, at the slice from `at` on.
 use mathlib.Core.Path.{ap}
 use mathlib.Core.Bool.{not}
-use borrow.Author.Rules.{rules}
 use Prim.Native.Nat.{ℕ}
 use mathlib.Core.List.{List}
 use native.Mathlib.Omega.{arith}

@@ -1,8 +1,4 @@
 -- `zeros` meets its contract: what was passed so far is 0, so all of it is 0 exactly when the rest is.
-use borrow.Author.Rules.{rules}
-use Prim.Native.Nat.{◌-◌}
-use lib.ListN.{length, drop}
-use Rattle.dhcp_strict.specs.helpers.AllZero.{AllZero}
 use Rattle.dhcp_strict.proofs.AllZero.{zero_first, zero_rest, zero_more, zero_none}
 use Rattle.dhcp_strict.proofs.zeros.Goals as goal
 

@@ -1,6 +1,5 @@
 -- `read_payload` meets its contract: the laws of `Answers`, at the packet as the code takes it.
 use mathlib.Core.Bool.{not}
-use borrow.Author.Rules.{rules}
 use Prim.Native.Nat.{ℕ, ◌+◌, ◌*◌, ◌/◌}
 use mathlib.Core.Path.{ap, sym, ◌∙◌}
 use mathlib.Core.List.{List}

@@ -3,7 +3,6 @@ use mathlib.Core.Path.{◌≡◌, sym, ap, ◌∙◌}
 use Rattle.record.specs.Answer.{paper}
 use Rattle.record.specs.declared.answer.Verdict.{Verdict}
 use Rattle.verdict_numbers.specs.Numbers.{padded}
-use borrow.Author.Rules.{rules}
 use Rattle.verdict_numbers.proofs.numbered.Goals as goal
 
 -- what is told of the verdict that a pattern names is told of the verdict

@@ -10,28 +10,16 @@ use Rattle.dhcp_reply.proofs.frame.put_dhcp_reply.Goals as goal
 
 pub returns-then-out-lt-FRAME : goal.returns-then-out-lt-FRAME
 returns-then-out-lt-FRAME c =
-    let net-four : FourBytes c.args.net = let net = c.well_formed.0.1.1 in
-    record {
-      gateway = search rules;
-      guest = search rules;
-      mask = search rules;
-    } in
     let a = c.args in
-    let four = net-four in
+    let four : FourBytes a.net = record { gateway = search rules; guest = search rules; mask = search rules } in
     let six : length a.mac ≡ 6 = omega (arith, c.well_formed) in
     let six' : length a.dst_mac ≡ 6 = omega (arith, c.well_formed) in
     sym (no_fit 0 _ a.out.now (omega (arith, length_dhcp_frame_to a.net a.mac a.id a.dst_mac a.xid a.kind four six six')))
 
 pub returns : goal.returns
 returns c =
-    let net-four : FourBytes c.args.net = let net = c.well_formed.0.1.1 in
-    record {
-      gateway = search rules;
-      guest = search rules;
-      mask = search rules;
-    } in
     let a = c.args in
-    let four = net-four in
+    let four : FourBytes a.net = record { gateway = search rules; guest = search rules; mask = search rules } in
     let six : length a.mac ≡ 6 = omega (arith, c.well_formed) in
     let six' : length a.dst_mac ≡ 6 = omega (arith, c.well_formed) in
     frame_put a.net a.mac a.id a.dst_mac a.xid a.kind four six six' a.out.now _ _ _ _ _ _ _ _ c.if-out-lt-FRAME.false c.broadcast-broadcast.ensures c.put_reply.ensures refl

@@ -2,7 +2,6 @@
 use Prim.Native.Nat.{ℕ}
 use Rattle.frames.specs.Frames.{ip_frame}
 use Rattle.host.proofs.Telling.{built_of}
-use borrow.Author.Rules.{rules}
 use Rattle.host.proofs.builders.yavoledu_make_ip_frame.Goals as goal
 
 pub returns : goal.returns

@@ -2,7 +2,6 @@
 use Prim.Native.Nat.{ℕ}
 use Rattle.tcp.specs.Rfc9293.{tcp_frame}
 use Rattle.host.proofs.Telling.{built_of}
-use borrow.Author.Rules.{rules}
 use Rattle.host.proofs.builders.yavoledu_make_tcp_frame.Goals as goal
 
 pub returns : goal.returns

@@ -1,6 +1,5 @@
 -- `builders::yavoledu_make_udp_payload` meets its contract.
 use Rattle.host.proofs.Telling.{told_of}
-use borrow.Author.Rules.{rules}
 use Rattle.host.proofs.builders.yavoledu_make_udp_payload.Goals as goal
 
 pub returns : goal.returns

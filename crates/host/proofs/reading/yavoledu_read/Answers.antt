@@ -3,7 +3,6 @@ use mathlib.Core.Path.{refl}
 use Rattle.host.proofs.Telling.{reported_of}
 use Rattle.host.specs.Parts.{kind_number, number_of, places, places_of}
 use Rattle.reader.specs.Reported.{report_of}
-use borrow.Author.Rules.{rules}
 use Rattle.host.proofs.reading.yavoledu_read.Goals as goal
 
 pub returns-in-Arp : goal.returns-in-Arp

@@ -1,6 +1,5 @@
 -- `reassembly::yavoledu_release` meets its contract.
 use Rattle.host.proofs.Reassembling.{freed_of}
-use borrow.Author.Rules.{rules}
 use Rattle.host.proofs.reassembly.yavoledu_release.Goals as goal
 
 pub returns : goal.returns

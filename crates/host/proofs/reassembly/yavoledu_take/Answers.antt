@@ -1,6 +1,5 @@
 -- `reassembly::yavoledu_take` meets its contract.
 use Rattle.host.proofs.Reassembling.{took_of}
-use borrow.Author.Rules.{rules}
 use Rattle.host.proofs.reassembly.yavoledu_take.Goals as goal
 
 pub returns : goal.returns

@@ -1,5 +1,5 @@
 -- `is_unfragmented` meets its contract: each part of the field is a field of the rule.
-use Rattle.std.proofs.Common.{◌≡◌, ℕ, zero, suc, ◌/◌, ◌%◌, ◌<◌, List, sym, refl, ap, ◌∙◌, arith, rules, eqb-true}
+use Rattle.std.proofs.Common.{◌≡◌, ℕ, zero, suc, ◌/◌, ◌%◌, ◌<◌, List, sym, refl, ap, ◌∙◌, arith, eqb-true}
 use borrow.Author.Tests.{eqb-false}
 use Rattle.base.proofs.Telling.{tells_eq}
 use Rattle.base.specs.Bytes.{u16_at}

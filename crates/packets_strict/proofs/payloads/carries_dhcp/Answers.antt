@@ -1,5 +1,5 @@
 -- `carries_dhcp` meets its contract: the first port decides which the second has to be.
-use Rattle.std.proofs.Common.{◌≡◌, ℕ, List, sym, refl, ◌∙◌, inl, inr, rules}
+use Rattle.std.proofs.Common.{◌≡◌, ℕ, List, sym, refl, ◌∙◌, inl, inr}
 use borrow.Author.Tests.{eqb-false}
 use Rattle.base.specs.Bytes.{u16_at}
 use Rattle.base.proofs.Telling.{tells_eq, first_of, second_of}

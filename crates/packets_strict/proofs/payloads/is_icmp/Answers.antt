@@ -1,5 +1,5 @@
 -- `is_icmp` meets its contract: each test is a field of the rule, and the message is what lies behind the header.
-use Rattle.std.proofs.Common.{◌≡◌, ℕ, ◌+◌, ◌-◌, List, length, take, drop, sym, ap, ◌∙◌, arith, length-drop, rules}
+use Rattle.std.proofs.Common.{◌≡◌, ℕ, ◌+◌, ◌-◌, List, length, take, drop, sym, ap, ◌∙◌, arith, length-drop}
 use Rattle.sums.specs.Rfc1071.{total, fold}
 use Rattle.grammar.specs.Grammar.{header_length_lem, payload, protocol}
 use Rattle.packets_strict.proofs.Reading.{tells_sums, rest}

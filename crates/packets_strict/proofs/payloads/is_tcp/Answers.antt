@@ -1,5 +1,5 @@
 -- `is_tcp` meets its contract: each test is a field of the rule, and the segment is what lies behind the header.
-use Rattle.std.proofs.Common.{◌≡◌, ℕ, ◌-◌, ◌*◌, ◌/◌, List, length, take, drop, sym, ap, ◌∙◌, arith, length-drop, rules}
+use Rattle.std.proofs.Common.{◌≡◌, ℕ, ◌-◌, ◌*◌, ◌/◌, List, length, take, drop, sym, ap, ◌∙◌, arith, length-drop}
 use Rattle.base.specs.Bytes.{u8_at}
 use Rattle.base.proofs.Telling.{tells_same}
 use Rattle.grammar.specs.Grammar.{TCP, data_offset, header_length_lem, payload, protocol}

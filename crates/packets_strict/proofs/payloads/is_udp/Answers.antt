@@ -1,5 +1,5 @@
 -- `is_udp` meets its contract: each test is a field of the rule, and the datagram is what lies behind the header.
-use Rattle.std.proofs.Common.{◌≡◌, ℕ, ◌-◌, List, length, take, drop, sym, ap, ◌∙◌, arith, rules}
+use Rattle.std.proofs.Common.{◌≡◌, ℕ, ◌-◌, List, length, take, drop, sym, ap, ◌∙◌, arith}
 use Rattle.base.specs.Bytes.{u16_at}
 use Rattle.base.proofs.Telling.{tells_same}
 use Rattle.grammar.specs.Grammar.{UDP, header_length_lem, payload, protocol, unsummed, summed}

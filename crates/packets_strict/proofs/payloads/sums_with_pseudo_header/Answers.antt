@@ -1,5 +1,5 @@
 -- `sums_with_pseudo_header` meets its contract: the sum of the pseudo-header, continued over the payload.
-use Rattle.std.proofs.Common.{◌≡◌, ℕ, ◌+◌, List, length, ap, ◌∙◌, arith, length-drop, rules}
+use Rattle.std.proofs.Common.{◌≡◌, ℕ, ◌+◌, List, length, ap, ◌∙◌, arith, length-drop}
 use Rattle.sums.specs.Rfc1071.{total, fold}
 use Rattle.grammar.specs.Grammar.{header_length_lem, payload}
 use Rattle.packets_strict.proofs.Pseudo.{sums_on, laid_out}

@@ -18,7 +18,6 @@ returns-then-reply-lt-FRAME c = rw c.answer.ensures (too_small _ _ 342 _ _ 342 r
 pub returns : goal.returns
 returns c =
     let a = c.args in
-    let net = c.well_formed.0.1.1.1.1.1.0.1.1 in
     let four : FourBytes a.guest.network =
     record {
       gateway = search rules;
