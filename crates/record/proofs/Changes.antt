@@ -1,5 +1,5 @@
 -- When a call that builds answers 6, 5 and 1, and what each changes: on 6 and 5 neither the record nor one byte.
-use Rattle.std.proofs.Common.{◌≡◌, ℕ, ◌<◌, ◌≤◌, Bool, true, false, cond, ltb, List, [], ◌∷◌, ◌++◌, length, drop, sym, refl, ap, ◌∙◌, subst, arith, ltb-false, ltb-true, le-ltb, lt-ltb}
+use Rattle.std.proofs.Common.{◌≡◌, ℕ, ◌<◌, ◌≤◌, Bool, true, false, cond, ltb, List, [], ◌∷◌, ◌++◌, length, drop, Result, sym, refl, ap, ◌∙◌, subst, arith, ltb-false, ltb-true, le-ltb, lt-ltb}
 use lib.Seq.{drop-append_seam}
 use Rattle.record.specs.Answer.{paper, Wrote, Meets, building, spending}
 use Rattle.record.specs.Guest.{Settled, Sized, spent}
@@ -7,6 +7,7 @@ use Rattle.record.specs.Network.{FourBytes}
 use Rattle.record.specs.declared.guest.Guest.{Guest}
 use Rattle.record.specs.declared.answer.Answer.{Answer}
 use Rattle.record.specs.declared.answer.Verdict.{Verdict}
+use Rattle.record.specs.declared.answer.Refusal.{Refusal}
 use Rattle.base.proofs.Choice.{by_test}
 
 -- a record that keeps its MAC and its network keeps the lengths of its arrays
@@ -15,12 +16,12 @@ still_sized s sized = record { mac = ap length s.mac_kept ∙ sized.mac; network
 
 module _ (limit len need room : ℕ) (image before after : List ℕ) where
   -- the three cases of a call that answers a verdict
-  pub data Came (v : Verdict) : Type 0 where
+  pub data Came (v : Result Verdict Refusal) : Type 0 where
     past_limit : limit < len → paper v ≡ 6 ∷ len ∷ [] → after ≡ before → Came v
     short_room : len ≤ limit → room < need → paper v ≡ 5 ∷ need ∷ [] → after ≡ before → Came v
     built : len ≤ limit → need ≤ room → paper v ≡ 1 ∷ need ∷ [] → after ≡ image ++ drop (length image) before → Came v
 
-  pub came : (v : Verdict) → Wrote (building limit len need room image) before after v → Came v
+  pub came : (v : Result Verdict Refusal) → Wrote (building limit len need room image) before after v → Came v
   unfolding building
   came v w =
       by_test (ltb limit len)
@@ -30,7 +31,7 @@ module _ (limit len need room : ℕ) (image before after : List ℕ) where
       (λ f. let w' = rw (e, f) at w in short_room (ltb-false limit len e) (ltb-true room need f) w'.numbers w'.bytes)
       (λ f. let w' = rw (e, f) at w in built (ltb-false limit len e) (ltb-false room need f) w'.numbers w'.bytes))
 
-  module _ (v : Verdict) (w : Wrote (building limit len need room image) before after v) where
+  module _ (v : Result Verdict Refusal) (w : Wrote (building limit len need room image) before after v) where
     -- 6 exactly past the limit; it says the length, and not one byte changes
     pub on_six : (k : ℕ) → paper v ≡ 6 ∷ k ∷ [] → (limit < len) × (k ≡ len) × (after ≡ before)
     on_six k e = go (came v w)

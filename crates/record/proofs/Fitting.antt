@@ -1,22 +1,24 @@
 -- The rule of 5 by itself: its laws are those of the rule of 5 and 6 with a limit that nothing passes.
-use Rattle.std.proofs.Common.{◌≡◌, ℕ, ◌<◌, ◌≤◌, List, [], ◌∷◌, ◌++◌, length, drop, arith}
+use Rattle.std.proofs.Common.{◌≡◌, ℕ, ◌<◌, ◌≤◌, List, [], ◌∷◌, ◌++◌, length, drop, Result, Ok, Err, arith}
 use Rattle.record.specs.Answer.{paper, Wrote, building, fitting}
 use Rattle.record.specs.declared.answer.Verdict.{Verdict}
-use Rattle.record.specs.declared.answer.Verdict.TheVariants.{Reply, NoRoom}
+use Rattle.record.specs.declared.answer.Verdict.TheVariants.{Reply}
+use Rattle.record.specs.declared.answer.Refusal.{Refusal}
+use Rattle.record.specs.declared.answer.Refusal.TheVariants.{NoRoom}
 use Rattle.record.proofs.Built.{no_room, written}
 use Rattle.record.proofs.Changes.{on_five, five_short_room, on_one, one_with_room}
 use Rattle.record.proofs.InBuffer.{InBuffer, in_buffer}
 
 module _ (need room : ℕ) (image before : List ℕ) where
-  pub does_not_fit : room < need → Wrote (fitting need room image) before before (NoRoom need)
+  pub does_not_fit : room < need → Wrote (fitting need room image) before before (Err (NoRoom need))
   unfolding building
   does_not_fit r = no_room 0 0 need room image before (omega arith) r
 
-  pub does_fit : (after : List ℕ) → need ≤ room → after ≡ image ++ drop (length image) before → Wrote (fitting need room image) before after (Reply need)
+  pub does_fit : (after : List ℕ) → need ≤ room → after ≡ image ++ drop (length image) before → Wrote (fitting need room image) before after (Ok (Reply need))
   unfolding building
   does_fit after r e = written 0 0 need room image before after (omega arith) r e
 
-  module _ (after : List ℕ) (v : Verdict) (w : Wrote (fitting need room image) before after v) where
+  module _ (after : List ℕ) (v : Result Verdict Refusal) (w : Wrote (fitting need room image) before after v) where
     unlimited : Wrote (building 0 0 need room image) before after v
     unfolding building
     unlimited = w

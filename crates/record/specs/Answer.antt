@@ -1,21 +1,28 @@
 -- What a call answers, in document 01's terms ("Verdict numbers"), and the promise of every call that builds.
-use Rattle.std.specs.Prelude.{◌≡◌, ℕ, cond, List, [], ◌∷◌, ◌++◌, length, drop, nat_lt}
+use Rattle.std.specs.Prelude.{◌≡◌, ℕ, cond, List, [], ◌∷◌, ◌++◌, length, drop, nat_lt, Result, Ok, Err}
 use Rattle.record.specs.Guest.{spent}
 use Rattle.record.specs.declared.guest.Guest.{Guest}
 use Rattle.record.specs.declared.answer.Answer.{Answer}
 use Rattle.record.specs.declared.answer.Verdict.{Verdict}
-use Rattle.record.specs.declared.answer.Verdict.TheVariants.{Drop, Reply, Dns, Relay, Tcp, NoRoom, TooLong, CutType}
+use Rattle.record.specs.declared.answer.Verdict.TheVariants.{Drop, Reply, Dns, Relay, Tcp}
+use Rattle.record.specs.declared.answer.Refusal.{Refusal}
+use Rattle.record.specs.declared.answer.Refusal.TheVariants.{NoRoom, TooLong, CutType}
 
--- the document's number of a verdict, and then its values
-unfoldable pub paper : Verdict → List ℕ
-paper Drop = 0 ∷ []
-paper (Reply n) = 1 ∷ n ∷ []
-paper (Dns start len) = 2 ∷ start ∷ len ∷ []
-paper (Relay start len) = 3 ∷ start ∷ len ∷ []
-paper (Tcp n) = 4 ∷ n ∷ []
-paper (NoRoom needed) = 5 ∷ needed ∷ []
-paper (TooLong len) = 6 ∷ len ∷ []
-paper (CutType place) = 7 ∷ place ∷ []
+-- the document's number of a verdict or of a refusal, and then its values
+unfoldable pub paper : Result Verdict Refusal → List ℕ
+paper (Ok Drop) = 0 ∷ []
+paper (Ok (Reply n)) = 1 ∷ n ∷ []
+paper (Ok (Dns start len)) = 2 ∷ start ∷ len ∷ []
+paper (Ok (Relay start len)) = 3 ∷ start ∷ len ∷ []
+paper (Ok (Tcp n)) = 4 ∷ n ∷ []
+paper (Err (NoRoom needed)) = 5 ∷ needed ∷ []
+paper (Err (TooLong len)) = 6 ∷ len ∷ []
+paper (Err (CutType place)) = 7 ∷ place ∷ []
+
+-- What a builder that hands no record back answers, as the verdict that it is: the bytes written are those of 1.
+abbrev pub as_verdict : Result ℕ Refusal → Result Verdict Refusal
+as_verdict (Ok written) = Ok (Reply written)
+as_verdict (Err refusal) = Err refusal
 
 -- What is to come of a call that writes: the verdict's number and values, and the first bytes of the buffer; `[]` where it is left alone.
 pub record Writing : Type 0 where
@@ -28,7 +35,7 @@ pub record Outcome : Type 0 where
   pub guest : Guest
 
 -- The promise of a call that answers a verdict: it is the one that is to come, and so is every byte of the buffer.
-pub record Wrote (w : Writing) (before after : List ℕ) (verdict : Verdict) : Type 0 where
+pub record Wrote (w : Writing) (before after : List ℕ) (verdict : Result Verdict Refusal) : Type 0 where
   pub numbers : paper verdict ≡ w.numbers
   pub bytes : after ≡ w.image ++ drop (length w.image) before
 

@@ -2,13 +2,13 @@
 ghost use Rattle.std.specs.Prelude.{◌≡◌};
 ghost use Rattle.record.specs.Guest.{known, noting, spent};
 
-use crate::answer::{Answer, Verdict};
+use crate::answer::{Answer, Refusal, Verdict};
 use crate::network::Network;
 
 // Its MAC, the id of the next IPv4 frame built for it, its last DHCP xid, and its network, which no call changes. `host`
 // lends it to C, so its layout is C's.
 #[repr(C)]
-#[derive(Clone, Copy)]
+#[derive(Clone, Copy, PartialEq, Eq)]
 pub struct Guest {
     pub mac: [u8; 6],
     pub id: u16,
@@ -48,7 +48,7 @@ impl Guest {
     }
 
     // The answer that leaves this record.
-    pub fn answer(self, verdict: Verdict) -> Answer
+    pub fn answer(self, verdict: Result<Verdict, Refusal>) -> Answer
         ensures { result ≡ record { verdict = verdict; guest = self } }
     {
         Answer {

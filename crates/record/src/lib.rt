@@ -6,6 +6,6 @@ mod answer;
 mod guest;
 mod network;
 
-pub use answer::{Answer, Verdict};
+pub use answer::{Answer, Refusal, Verdict};
 pub use guest::Guest;
 pub use network::{GATEWAY_MAC, Network};

@@ -7,7 +7,7 @@ use wire::bytes::{be32, u32be};
 // The gateway's address and the guest's, their mask, and the lease time in seconds. A record holds one, and `host` lends
 // that to C, so its layout is C's.
 #[repr(C)]
-#[derive(Clone, Copy)]
+#[derive(Clone, Copy, PartialEq, Eq)]
 pub struct Network {
     pub gateway: [u8; 4],
     pub guest: [u8; 4],
