@@ -6,3 +6,4 @@ pub mod Runs
 pub mod InARow
 pub mod CountsOn
 pub mod Counting
+pub mod BigEndian

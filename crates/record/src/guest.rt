@@ -33,18 +33,17 @@ impl Guest {
     pub fn spend(self) -> Guest
         ensures { result ≡ spent self }
     {
-        let mut next = self;
-        next.id = std::num::wrapping_add_u16(self.id, 1);
-        next
+        Guest {
+            id: self.id.wrapping_add(1),
+            ..self
+        }
     }
 
     // It has a message with this xid.
     pub fn note(self, xid: u32) -> Guest
         ensures { result ≡ noting xid self }
     {
-        let mut noted = self;
-        noted.xid = xid;
-        noted
+        Guest { xid, ..self }
     }
 
     // The answer that leaves this record.

@@ -2,8 +2,6 @@
 ghost use Rattle.std.specs.Prelude.{◌≡◌};
 ghost use Rattle.record.specs.Network.{broadcast_of};
 
-use wire::bytes::{be32, u32be};
-
 // The gateway's address and the guest's, their mask, and the lease time in seconds. A record holds one, and `host` lends
 // that to C, so its layout is C's.
 #[repr(C)]
@@ -22,8 +20,8 @@ impl Network {
     pub fn broadcast(self) -> [u8; 4]
         ensures { result ≡ broadcast_of self }
     {
-        let guest = self.guest;
-        let mask = self.mask;
-        be32(u32be(&guest, 0) | !u32be(&mask, 0))
+        let guest = u32::from_be_bytes(self.guest);
+        let mask = u32::from_be_bytes(self.mask);
+        (guest | !mask).to_be_bytes()
     }
 }
