@@ -8,7 +8,7 @@ use borrow.Author.Tests.{eqb-true, leb-true}
 use lib.ListN.{drop}
 use lib.Seq.{drop-drop}
 use lib.Dec.{eqb, leb}
-use Rattle.options.specs.Rfc2132.{Walked, typed, cut, decides, type_at, walk, walk_from}
+use Rattle.options.specs.Rfc2132.{typed, cut, decides, type_at, walk, walk_from}
 
 pub record LastOption (message : List ℕ) (place : ℕ) : Type 0 where
   pub behind_cookie : 240 ≤ place
@@ -23,19 +23,6 @@ record EndsCut (rest : List ℕ) (from place : ℕ) : Type 0 where
   pub len : ℕ
   pub some : 1 ≤ len
   pub last_two : drop over rest ≡ 53 ∷ len ∷ []
-
--- a type is no cut place, and two cut places are one
-is_cut : Walked → ℕ
-is_cut (typed type) = 0
-is_cut (cut place) = 1
-
-place_of : Walked → ℕ
-place_of (typed type) = 0
-place_of (cut place) = place
-
-no_cut : {A : Type 0} (type place : ℕ) → typed type ≡ cut place → A
-unfolding is_cut
-no_cut type place e = let apart : ◌≡◌ {A = ℕ} 0 1 = ap is_cut e in absurd (omega arith)
 
 -- further on in the same bytes
 further : {rest : List ℕ} {from place : ℕ} (n : ℕ) (all : List ℕ) → drop n all ≡ rest → EndsCut rest (from + n) place → EndsCut all from place
@@ -57,31 +44,30 @@ decides_true code len e = go (eqb code 53) (leb 1 len) refl refl e
     go false t p q r = absurd (false≢true r)
 
 here : (code len from place : ℕ) (rest : List ℕ) → decides code len ≡ true → type_at from rest ≡ cut place → EndsCut (code ∷ len ∷ rest) from place
-unfolding place_of
 here code len from place [] d e =
     let c = decides_true code len d in
     record {
       over = 0;
-      there = sym (ap place_of e) ∙ omega arith;
+      there = let same : from ≡ place = cc in omega arith;
       len = len;
       some = c.1;
       last_two = ap (λ (x : ℕ). x ∷ len ∷ []) c.0;
     }
-here code len from place (type ∷ rest) d e = no_cut type place e
+here code len from place (type ∷ rest) d e = cc
 
-ends_there : (rest : List ℕ) (from over place : ℕ) → walk_from from over rest ≡ cut place → EndsCut rest from place
+ends_there : (rest : List ℕ) (from over place : ℕ) → walk_from 0 from over rest ≡ cut place → EndsCut rest from place
 unfolding walk_from
-ends_there [] from over place e = no_cut 0 place e
+ends_there [] from over place e = cc
 ends_there (byte ∷ rest) from (suc over) place e = further 1 (byte ∷ rest) refl (ends_there rest (from + 1) over place e)
-ends_there (code ∷ []) from zero place e = no_cut 0 place e
+ends_there (code ∷ []) from zero place e = cc
 ends_there (code ∷ len ∷ rest) from zero place e =
     go (eqb code 255) (eqb code 0) (decides code len) refl e (ends_there (len ∷ rest) (from + 1) 0 place) (ends_there rest (from + 2) len place)
   where
     go : (s t u : Bool) → decides code len ≡ u
-        → cond s (typed 0) (cond t (walk_from (from + 1) 0 (len ∷ rest)) (cond u (type_at from rest) (walk_from (from + 2) len rest))) ≡ cut place
-        → (walk_from (from + 1) 0 (len ∷ rest) ≡ cut place → EndsCut (len ∷ rest) (from + 1) place)
-        → (walk_from (from + 2) len rest ≡ cut place → EndsCut rest (from + 2) place) → EndsCut (code ∷ len ∷ rest) from place
-    go true t u d p pad other = no_cut 0 place p
+        → cond s (typed 0) (cond t (walk_from 0 (from + 1) 0 (len ∷ rest)) (cond u (type_at from rest) (walk_from 0 (from + 2) len rest))) ≡ cut place
+        → (walk_from 0 (from + 1) 0 (len ∷ rest) ≡ cut place → EndsCut (len ∷ rest) (from + 1) place)
+        → (walk_from 0 (from + 2) len rest ≡ cut place → EndsCut rest (from + 2) place) → EndsCut (code ∷ len ∷ rest) from place
+    go true t u d p pad other = cc
     go false true u d p pad other = further 1 (code ∷ len ∷ rest) refl (pad p)
     go false false true d p pad other = here code len from place rest d p
     go false false false d p pad other = further 2 (code ∷ len ∷ rest) refl (other p)

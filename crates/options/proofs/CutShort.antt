@@ -32,7 +32,7 @@ value_cut place (suc k) (type ∷ rest) = same refl
 ended_at : {whole part : Walked} {m n : ℕ} → m ≡ n → Shortened whole part m → Shortened whole part n
 ended_at {whole} {part} e s = subst (Shortened whole part) e s
 
-shortened : (rest : List ℕ) (place over k : ℕ) → Shortened (walk_from place over rest) (walk_from place over (take k rest)) (place + k)
+shortened : (rest : List ℕ) (place over k : ℕ) → Shortened (walk_from 0 place over rest) (walk_from 0 place over (take k rest)) (place + k)
 unfolding walk_from
 shortened rest place over zero = no_type refl
 shortened [] place over (suc k) = same refl
@@ -62,10 +62,10 @@ pub cut_short : (message : List ℕ) (k : ℕ) → Shortened (walk message) (wal
 unfolding walk
 cut_short message k =
     by_test (leb k 240)
-    (λ e. no_type (ap (walk_from 240 0) (drop_of_length-le (take k message) {i = 240} (simp length-take (omega (arith, leb-true k 240 e)))) ∙ end_of_data 240))
+    (λ e. no_type (ap (walk_from 0 240 0) (drop_of_length-le (take k message) {i = 240} (simp length-take (omega (arith, leb-true k 240 e)))) ∙ end_of_data 0 240))
     (λ e.
     let long : k ≡ 240 + (k - 240) = omega (arith, leb-false k 240 e) in
     ended_at (sym long)
-    (subst (λ (s : List ℕ). Shortened (walk_from 240 0 (drop 240 message)) (walk_from 240 0 s) (240 + (k - 240)))
+    (subst (λ (s : List ℕ). Shortened (walk_from 0 240 0 (drop 240 message)) (walk_from 0 240 0 s) (240 + (k - 240)))
     (sym (ap (λ (n : ℕ). drop 240 (take n message)) long ∙ drop-take 240 (k - 240) message))
     (shortened (drop 240 message) 240 0 (k - 240))))

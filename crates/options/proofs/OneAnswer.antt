@@ -1,25 +1,31 @@
 -- The contract leaves one answer: whatever meets it twice on the same message has answered the same twice.
-use Prim.Native.Nat.{ℕ}
+use Prim.Native.Nat.{ℕ, suc}
 use mathlib.Core.Path.{◌≡◌, refl, ap, sym, ◌∙◌}
 use mathlib.Core.List.{List}
-use Rattle.options.specs.Found.{walked_as}
-use Rattle.options.specs.Rfc2132.{Walked, typed, cut, walk}
-use Rattle.options.specs.declared.Found.{Found}
-use Rattle.options.specs.declared.Found.TheVariants.{MessageType, CutAt}
+use native.Mathlib.Omega.{arith}
+use Rattle.std.specs.Prelude.{Option, Some, None, Result, Ok, Err}
+use Rattle.options.specs.Found.{walked_or}
+use Rattle.options.specs.Rfc2132.{Walked, walk, walk_or}
+use Rattle.options.specs.declared.CutAt.{CutAt}
 
--- the answer with this meaning
-found_of : Walked → Found
-found_of (typed type) = MessageType type
-found_of (cut place) = CutAt place
+-- What the walk gives with every number for a message without a type, it gives with 0 too.
+pub both : (ends : ℕ → Walked) (message : List ℕ) → ((none : ℕ) → ends none ≡ walk_or none message)
+    → record { walked : ends 0 ≡ walk message; determined : (none : ℕ) → ends none ≡ walk_or none message }
+unfolding walk walk_or
+both ends message e = record { walked = e 0; determined = e }
 
-found_back : (f : Found) → found_of (walked_as f) ≡ f
-unfolding found_of
-found_back (MessageType type) = refl
-found_back (CutAt place) = refl
+-- A type is told from none by one more than it.
+pub walked_one_to_one : (f g : Result (Option ℕ) CutAt) → ((none : ℕ) → walked_or none f ≡ walked_or none g) → f ≡ g
+walked_one_to_one (Ok (Some type)) (Ok (Some other)) e = let same = e 0 in cc
+walked_one_to_one (Ok (Some type)) (Ok None) e = let same = e (suc type) in let no : type ≡ suc type = cc in absurd (omega arith)
+walked_one_to_one (Ok (Some type)) (Err at) e = let same = e 0 in cc
+walked_one_to_one (Ok None) (Ok (Some other)) e = let same = e (suc other) in let no : suc other ≡ other = cc in absurd (omega arith)
+walked_one_to_one (Ok None) (Ok None) e = refl
+walked_one_to_one (Ok None) (Err at) e = let same = e 0 in cc
+walked_one_to_one (Err at) (Ok (Some other)) e = let same = e 0 in cc
+walked_one_to_one (Err at) (Ok None) e = let same = e 0 in cc
+walked_one_to_one (Err at) (Err place) e = let same = e 0 in let there : at.0 ≡ place.0 = cc in let refused : ℕ → Result (Option ℕ) CutAt = λ n. Err (record { 0 = n }) in ap refused there
 
--- different answers mean different things
-pub walked_one_to_one : (f g : Found) → walked_as f ≡ walked_as g → f ≡ g
-walked_one_to_one f g e = sym (found_back f) ∙ ap found_of e ∙ found_back g
-
-pub message_type_answers_once : (message : List ℕ) (f g : Found) → walked_as f ≡ walk message → walked_as g ≡ walk message → f ≡ g
-message_type_answers_once message f g p q = walked_one_to_one f g (p ∙ sym q)
+pub message_type_answers_once : (message : List ℕ) (f g : Result (Option ℕ) CutAt) → ((none : ℕ) → walked_or none f ≡ walk_or none message)
+    → ((none : ℕ) → walked_or none g ≡ walk_or none message) → f ≡ g
+message_type_answers_once message f g p q = walked_one_to_one f g (λ none. p none ∙ sym (q none))
