@@ -1,5 +1,5 @@
 -- DHCP: the reply, a message of RFC 2131, figure 1, with document 01's values ("DHCP reply: 300 bytes"), and what it answers.
-use Rattle.std.specs.Prelude.{ℕ, cond, List, [], ◌∷◌, ◌++◌, replicate, eqb}
+use Rattle.std.specs.Prelude.{ℕ, zero, suc, cond, Option, Some, None, List, [], ◌∷◌, ◌++◌, replicate, eqb}
 use Rattle.base.specs.Bytes.{be16, be32}
 use Rattle.options.specs.Rfc2132.{option}
 use Rattle.record.specs.Answer.{Writing, fitting}
@@ -36,3 +36,8 @@ build_reply_lem net mac xid type room = fitting 300 room (reply net mac xid type
 -- "Message type 1 gives an offer (2), 3 an acknowledgement (5), any other a drop": the reply's type, 0 where there is none
 abbrev pub answering : (type : ℕ) → ℕ
 answering type = cond (eqb type 1) 2 (cond (eqb type 3) 5 0)
+
+-- that 0 as what `reply_type` answers
+abbrev pub some_answer : (answer : ℕ) → Option ℕ
+some_answer zero = None
+some_answer (suc n) = Some (suc n)

@@ -2,7 +2,7 @@
 ghost use Rattle.std.specs.Prelude.{◌≡◌, ◌≤◌, length};
 ghost use Rattle.record.specs.Answer.{Wrote};
 ghost use Rattle.base.specs.Buffer.{put as Buffer·put, put_if_fits};
-ghost use Rattle.dhcp_message.specs.Message.{answering, build_reply_lem, reply as Message·reply};
+ghost use Rattle.dhcp_message.specs.Message.{answering, build_reply_lem, reply as Message·reply, some_answer};
 ghost use Rattle.dhcp_message.specs.helpers.Pieces.{first_fields_lem, fixed_part, written, values as Pieces·values};
 ghost use Rattle.options.specs.Rfc2132.{option};
 
@@ -50,17 +50,16 @@ const REQUEST: u8 = 3;
 
 const ACK: u8 = 5;
 
-// The type of the reply to a message of type `received`; 0 where it gets none.
-pub fn reply_type(received: u8) -> u8
-    ensures { result ≡ answering received }
+// The type of the reply to a message of type `received`; None where it gets none. (A type stays a byte,
+// for `build_reply` takes any: an enum would be made from one here and turned back into one there.)
+pub fn reply_type(received: u8) -> Option<u8>
+    ensures { result ≡ some_answer (answering received) }
 {
-    if received == DISCOVER {
-        return OFFER;
+    match received {
+        DISCOVER => Some(OFFER),
+        REQUEST => Some(ACK),
+        _ => None,
     }
-    if received == REQUEST {
-        return ACK;
-    }
-    0
 }
 
 // A reply of type `kind` at the front of `out`. `mac` is the record's, not the request's.
