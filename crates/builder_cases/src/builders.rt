@@ -5,7 +5,7 @@ use crate::answers;
 use crate::answers::Expected;
 use record::{Answer, Guest};
 use tcp::Endpoints;
-use wire::bytes::{address_at, byte_at, mac_at, u16be, u32be};
+use wire::bytes::{byte_at, bytes_at, u16be, u32be};
 
 // The builders that a line can call.
 const IP_FRAME: u8 = 0;
@@ -63,9 +63,9 @@ fn call(line: &[u8], builder: u8, payload: &[u8], out: &mut [u8]) -> Answer {
 fn ip_frame(line: &[u8], payload: &[u8], out: &mut [u8]) -> Answer {
     frames::make_ip_frame(
         guest(line),
-        mac_at(line, 3),
-        address_at(line, 9),
-        address_at(line, 13),
+        bytes_at(line, 3),
+        bytes_at(line, 9),
+        bytes_at(line, 13),
         byte_at(line, 17),
         payload,
         out,
@@ -76,9 +76,9 @@ fn ip_frame_in_place(line: &[u8], payload: &[u8], out: &mut [u8]) -> Answer {
     lay_at_34(payload, out);
     frames::make_ip_frame_in_place(
         guest(line),
-        mac_at(line, 3),
-        address_at(line, 9),
-        address_at(line, 13),
+        bytes_at(line, 3),
+        bytes_at(line, 9),
+        bytes_at(line, 13),
         byte_at(line, 17),
         payload.len(),
         out,
@@ -94,9 +94,9 @@ fn lay_at_34(payload: &[u8], out: &mut [u8]) {
 
 fn udp_payload(line: &[u8], payload: &[u8], out: &mut [u8]) -> Answer {
     let verdict = datagrams::make_udp_payload(
-        address_at(line, 1),
+        bytes_at(line, 1),
         u16be(line, 5),
-        address_at(line, 7),
+        bytes_at(line, 7),
         u16be(line, 11),
         payload,
         out,
@@ -109,10 +109,10 @@ fn udp_payload(line: &[u8], payload: &[u8], out: &mut [u8]) -> Answer {
 
 fn tcp_frame(line: &[u8], payload: &[u8], out: &mut [u8]) -> Answer {
     let ends = Endpoints {
-        dst_mac: mac_at(line, 3),
-        src_ip: address_at(line, 9),
+        dst_mac: bytes_at(line, 3),
+        src_ip: bytes_at(line, 9),
         src_port: u16be(line, 13),
-        dst_ip: address_at(line, 15),
+        dst_ip: bytes_at(line, 15),
         dst_port: u16be(line, 19),
     };
     tcp::make_tcp_frame(

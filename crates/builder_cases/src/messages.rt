@@ -1,7 +1,7 @@
 // DHCP lines: the walk over a message's options, the types of replies, and the reply.
 use crate::answers;
 use options::Found;
-use wire::bytes::{byte_at, mac_at, u16be, u32be};
+use wire::bytes::{byte_at, bytes_at, u16be, u32be};
 
 const CUT: u8 = 7;
 
@@ -81,7 +81,7 @@ pub fn builds_reply(line: &[u8]) -> bool {
     }
     let verdict = dhcp_message::build_reply(
         vectors::network(),
-        mac_at(line, 5),
+        bytes_at(line, 5),
         u32be(line, 1),
         byte_at(line, 11),
         out,

@@ -5,7 +5,7 @@ ghost use Rattle.gateway_cases.specs.Calls.{Called, Judged, fields_of, is_call};
 
 use crate::pieces;
 use record::{Guest, Network, Verdict};
-use wire::bytes::{address_at, byte_at, mac_at, u16be, u32be};
+use wire::bytes::{byte_at, bytes_at, u16be, u32be};
 
 // A call on document 01's network with id and xid before it, one that goes on with the record that the
 // last one left, and one with its network before id and xid.
@@ -88,9 +88,9 @@ fn record_before(line: &[u8], kind: u8, last: Guest) -> Guest {
 
 fn network_at(line: &[u8]) -> Network {
     Network {
-        gateway: address_at(line, 1),
-        guest: address_at(line, 5),
-        mask: address_at(line, 9),
+        gateway: bytes_at(line, 1),
+        guest: bytes_at(line, 5),
+        mask: bytes_at(line, 9),
         lease: u32be(line, 13),
     }
 }
@@ -98,7 +98,7 @@ fn network_at(line: &[u8]) -> Network {
 // From id and xid on. It has the MAC of the record after the call, which stands behind them.
 fn known(fields: &[u8], network: Network) -> Guest {
     Guest::of(
-        mac_at(fields, 6),
+        bytes_at(fields, 6),
         u16be(fields, 0),
         u32be(fields, 2),
         network,
@@ -176,7 +176,7 @@ fn call_with(fields: &[u8], before: Guest, frame: &[u8]) -> Checked {
 // On the network of the record before: no call changes it.
 fn record_after(fields: &[u8], network: Network) -> Guest {
     Guest::of(
-        mac_at(fields, 0),
+        bytes_at(fields, 0),
         u16be(fields, 6),
         u32be(fields, 8),
         network,

@@ -3,7 +3,7 @@ ghost use Rattle.std.specs.Prelude.{◌≡◌, eqb, get_or};
 
 use making::{Answer, Lease};
 use record::{Guest, Network};
-use wire::bytes::{address_at, byte_at, mac_at, u32be};
+use wire::bytes::{byte_at, bytes_at, u32be};
 
 // The kind of such a line, without the bit of a spoiled one.
 pub const MAKING: u8 = 16;
@@ -60,10 +60,10 @@ pub fn made(line: &[u8]) -> MakingOutcome
 
 fn makes(line: &[u8]) -> bool {
     let making = making::make(
-        mac_at(line, MAC_AT),
-        address_at(line, GATEWAY_AT),
-        address_at(line, GUEST_AT),
-        address_at(line, MASK_AT),
+        bytes_at(line, MAC_AT),
+        bytes_at(line, GATEWAY_AT),
+        bytes_at(line, GUEST_AT),
+        bytes_at(line, MASK_AT),
         lease(line),
     );
     let answer = making.answer;
@@ -84,12 +84,12 @@ fn lease(line: &[u8]) -> Lease {
 
 fn new_record(line: &[u8]) -> Guest {
     let network = Network {
-        gateway: address_at(line, GATEWAY_AT),
-        guest: address_at(line, GUEST_AT),
-        mask: address_at(line, MASK_AT),
+        gateway: bytes_at(line, GATEWAY_AT),
+        guest: bytes_at(line, GUEST_AT),
+        mask: bytes_at(line, MASK_AT),
         lease: u32be(line, LEASE_OF_RECORD_AT),
     };
-    Guest::of(mac_at(line, MAC_AT), 1, 0, network)
+    Guest::of(bytes_at(line, MAC_AT), 1, 0, network)
 }
 
 // All zeros, where the line says so of the lease too.

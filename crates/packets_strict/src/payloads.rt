@@ -7,7 +7,7 @@ ghost use Rattle.sums.specs.Rfc1071.{SumsRight};
 
 use std::num::wrapping_sub_u16;
 use sums::sum;
-use wire::bytes::{address_at, byte_at, u16be};
+use wire::bytes::{byte_at, bytes_at, u16be};
 use wire::{icmp, ipv4, tcp, udp};
 
 pub fn is_icmp(packet: &[u8]) -> bool
@@ -83,8 +83,8 @@ fn sums_with_pseudo_header(packet: &[u8]) -> bool
 {
     let header = ipv4::header_length(packet, 0);
     let pseudo = udp::pseudo_header(
-        address_at(packet, ipv4::SOURCE),
-        address_at(packet, ipv4::TARGET),
+        bytes_at(packet, ipv4::SOURCE),
+        bytes_at(packet, ipv4::TARGET),
         byte_at(packet, ipv4::PROTOCOL),
         // It wraps where the total length is less than the header's, and so not behind a right header.
         wrapping_sub_u16(u16be(packet, ipv4::TOTAL_LENGTH), header as u16),

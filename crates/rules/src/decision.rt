@@ -7,7 +7,7 @@ ghost use Rattle.options.specs.Found.{walked_as};
 use dhcp_message::reply_type;
 use options::{Found, message_type};
 use record::Network;
-use wire::bytes::{address_at, byte_at, u16be, u32be};
+use wire::bytes::{byte_at, bytes_at, u16be, u32be};
 use wire::ethernet::eth_type;
 use wire::ipv4::{ip_dst, ip_hlen, ip_proto};
 use wire::{arp, dhcp, ethernet, icmp, ipv4, udp};
@@ -65,7 +65,7 @@ fn decide_arp(net: Network, frame: &[u8]) -> Decision
         return Decision::Drop;
     }
     let gateway = net.gateway;
-    if !same(address_at(frame, ARP_TARGET), gateway) {
+    if !same(bytes_at(frame, ARP_TARGET), gateway) {
         return Decision::Drop;
     }
     Decision::ArpReply

@@ -12,7 +12,7 @@ use dhcp_reply::put_dhcp_reply;
 use echo_reply::{MESSAGE_AT, put_echo_reply};
 use record::{Answer, Guest, Verdict};
 use rules::payload_length;
-use wire::bytes::{address_at, mac_at};
+use wire::bytes::bytes_at;
 use wire::ethernet::eth_src;
 use wire::ipv4::ip_src;
 use wire::{arp, ethernet};
@@ -35,8 +35,8 @@ pub fn handle_arp(guest: Guest, frame: &[u8], reply: &mut [u8]) -> Answer
     let gateway = network.gateway;
     put_arp_reply(
         gateway,
-        mac_at(frame, SENDER_MAC),
-        address_at(frame, SENDER_IP),
+        bytes_at(frame, SENDER_MAC),
+        bytes_at(frame, SENDER_IP),
         reply,
     );
     guest.answer(Verdict::Reply(arp_reply::FRAME))

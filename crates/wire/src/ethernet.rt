@@ -2,7 +2,7 @@
 ghost use Rattle.std.specs.Prelude.{◌≡◌};
 ghost use Rattle.wire.specs.Rfc894.{source_mac, type_of};
 
-use crate::bytes::{mac_at, u16be};
+use crate::bytes::{bytes_at, u16be};
 
 pub const HEADER: usize = 14;
 
@@ -19,7 +19,7 @@ pub const IPV4: u16 = 0x0800;
 pub fn eth_src(frame: &[u8]) -> [u8; 6]
     ensures { result ≡ source_mac frame.now }
 {
-    mac_at(frame, SOURCE)
+    bytes_at(frame, SOURCE)
 }
 
 pub fn eth_type(frame: &[u8]) -> u16

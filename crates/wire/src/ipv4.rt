@@ -3,7 +3,7 @@ ghost use Rattle.std.specs.Prelude.{◌≡◌, ◌≤◌, drop};
 ghost use Rattle.wire.specs.Rfc894.{body};
 ghost use Rattle.wire.specs.Rfc791.{version as Rfc791·version, header_length_lem, reserved_in_lem, more_in_lem, offset_in_lem, more_fragments_lem, fragment_offset_lem, protocol_of, source_of, target_of};
 
-use crate::bytes::{address_at, byte_at, u16be};
+use crate::bytes::{byte_at, bytes_at, u16be};
 use crate::ethernet;
 
 // The header without options, and the longest payload behind one.
@@ -70,12 +70,14 @@ pub fn offset_in(field: u16) -> usize
     ((field & 0x1fff) as usize) << 3
 }
 
+#[tactic(auto, unfolding(crate::specs::Rfc791::more_fragments_lem))]
 pub fn more_fragments(packet: &[u8]) -> bool
     ensures { result ≡ more_fragments_lem packet.now }
 {
     more_in(u16be(packet, FLAGS_AND_OFFSET))
 }
 
+#[tactic(auto, unfolding(crate::specs::Rfc791::fragment_offset_lem))]
 pub fn fragment_offset(packet: &[u8]) -> usize
     ensures { (result ≡ fragment_offset_lem packet.now) × (result ≤ 65528) }
 {
@@ -104,11 +106,11 @@ pub fn ip_proto(frame: &[u8]) -> u8
 pub fn ip_src(frame: &[u8]) -> [u8; 4]
     ensures { result ≡ source_of (body frame.now) }
 {
-    address_at(frame, SOURCE_IN_FRAME)
+    bytes_at(frame, SOURCE_IN_FRAME)
 }
 
 pub fn ip_dst(frame: &[u8]) -> [u8; 4]
     ensures { result ≡ target_of (body frame.now) }
 {
-    address_at(frame, TARGET_IN_FRAME)
+    bytes_at(frame, TARGET_IN_FRAME)
 }

@@ -27,18 +27,9 @@ pub const DHCP_CLIENT: u16 = 68;
 pub fn pseudo_header(src_ip: [u8; 4], dst_ip: [u8; 4], proto: u8, len: u16) -> [u8; 12]
     ensures { result ≡ pseudo_header_lem src_ip dst_ip proto len }
 {
+    let [high, low] = len.to_be_bytes();
     [
-        src_ip[0],
-        src_ip[1],
-        src_ip[2],
-        src_ip[3],
-        dst_ip[0],
-        dst_ip[1],
-        dst_ip[2],
-        dst_ip[3],
-        0,
-        proto,
-        (len / 256) as u8,
-        (len % 256) as u8,
+        src_ip[0], src_ip[1], src_ip[2], src_ip[3], dst_ip[0], dst_ip[1], dst_ip[2], dst_ip[3], 0,
+        proto, high, low,
     ]
 }

@@ -17,6 +17,6 @@ returns c =
     tells_sums c.sum-2.result _
     (sums_on p (omega (arith, ip.least_header, ip.inside, ip.total)) c.sum.result c.sum-2.result
     (c.sum.ensures
-    ∙ laid_out p c.pseudo_header-pseudo.ensures c.address_at.ensures c.address_at-2.ensures c.byte_at.ensures len)
+    ∙ laid_out p c.pseudo_header-pseudo.ensures c.bytes_at.ensures c.bytes_at-2.ensures c.byte_at.ensures len)
     (c.sum-2.ensures ∙ ap (λ (m : List ℕ). fold (c.sum.result + total m)) (rest p _ (header_length_lem p) header)))
     (λ right. right) (λ a. a)

@@ -29,7 +29,7 @@ returns-then-not-same c =
     let frame = c.args.frame.now in
     let gateway = c.args.net.gateway in
     let op : c.u16be.result ≡ operation (body frame) = simp get_or-drop c.u16be.ensures in
-    let target : c.address_at.result ≡ sought_address (body frame) = simp get_or-drop c.address_at.ensures in
+    let target : c.bytes_at.result ≡ sought_address (body frame) = simp get_or-drop c.bytes_at.ensures in
     let sought : same (sought_address (body frame)) gateway ≡ false =
     ap (λ (l : List ℕ). same l gateway) (sym target) ∙ sym c.same.ensures ∙ c.if-not-same.true in
     simp (le-ltb (length frame) 42 c.if-frame-lt-ARP_FRAME.false, eq-eqb (operation (body frame)) 1 (sym op ∙ c.if-u16be-ne-REQUEST.false), sought)
@@ -40,7 +40,7 @@ returns c =
     let frame = c.args.frame.now in
     let gateway = c.args.net.gateway in
     let op : c.u16be.result ≡ operation (body frame) = simp get_or-drop c.u16be.ensures in
-    let target : c.address_at.result ≡ sought_address (body frame) = simp get_or-drop c.address_at.ensures in
+    let target : c.bytes_at.result ≡ sought_address (body frame) = simp get_or-drop c.bytes_at.ensures in
     let sought : same (sought_address (body frame)) gateway ≡ true =
     ap (λ (l : List ℕ). same l gateway) (sym target) ∙ sym c.same.ensures ∙ c.if-not-same.false in
     simp (le-ltb (length frame) 42 c.if-frame-lt-ARP_FRAME.false, eq-eqb (operation (body frame)) 1 (sym op ∙ c.if-u16be-ne-REQUEST.false), sought)

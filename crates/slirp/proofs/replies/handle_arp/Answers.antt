@@ -19,8 +19,8 @@ returns-then-reply-lt-FRAME c = rw c.answer.ensures (too_small _ _ 42 _ _ 42 ref
 pub returns : goal.returns
 returns c =
     let a = c.args in
-    let mac : c.mac_at.result ≡ sender_mac_lem (body a.frame.now) = simp get_or-drop c.mac_at.ensures in
-    let address : c.address_at.result ≡ sender_address (body a.frame.now) = simp get_or-drop c.address_at.ensures in
+    let mac : c.bytes_at.result ≡ sender_mac_lem (body a.frame.now) = simp get_or-drop c.bytes_at.ensures in
+    let address : c.bytes_at-2.result ≡ sender_address (body a.frame.now) = simp get_or-drop c.bytes_at-2.ensures in
     let four : length a.guest.network.gateway ≡ 4 = search rules in
     rw c.answer-2.ensures
     (large_enough _ _ 42 _ _ 42 refl (length_reply_to a.guest.network.gateway (sender_mac_lem (body a.frame.now)) (sender_address (body a.frame.now)) four refl refl) c.if-reply-lt-FRAME.false _
