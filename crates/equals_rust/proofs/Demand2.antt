@@ -13,9 +13,8 @@ use Rattle.record.specs.Guest.{fresh, known}
 use Rattle.making.proofs.Exactly.{good_is_made}
 use Rattle.making.proofs.Worked.{document01_good}
 use Rattle.making.specs.Making.{Makes}
-use Rattle.making.specs.declared.answer.Answer.TheVariants.{Made}
-use Rattle.making.specs.declared.answer.Lease.TheVariants.{Named}
-use Rattle.making.specs.declared.answer.Making.{Making}
+use Rattle.making.specs.declared.call.BadRecord.{BadRecord}
+use Rattle.std.proofs.Common.{Result, Ok, Some}
 use Rattle.equals_rust.specs.Network.{rust_network}
 use Rattle.record.specs.declared.answer.Answer.{Answer}
 use Rattle.record.specs.declared.guest.Guest.{Guest}
@@ -42,11 +41,10 @@ pub new_is_fresh : (mac : List ℕ) → record_of (new mac) ≡ fresh mac rust_n
 new_is_fresh mac = refl
 
 -- so is whatever `make` answers to document 01's addresses and a lease of 86,400 seconds by name
-pub made_is_new : (mac : List ℕ) (r : Making) → Makes mac rust_network.gateway rust_network.guest rust_network.mask (Named rust_network.lease) r
-    → (r.answer ≡ Made) × (r.guest ≡ record_of (new mac))
-made_is_new mac r m =
-    let e = good_is_made m document01_good in
-    (ap (λ (x : Making). x.answer) e, ap (λ (x : Making). x.guest) e)
+pub made_is_new : (mac : List ℕ) (r : Result Guest BadRecord)
+    → Makes mac rust_network.gateway rust_network.guest rust_network.mask (Some rust_network.lease) r
+    → r ≡ Ok (record_of (new mac))
+made_is_new mac r m = good_is_made m document01_good
 
 -- For every frame and every backend, whatever it has pending, whose MAC and id are what their types say.
 module _ (self : SlirpBackend) (frame : List ℕ) (typed : GuestTyped (record_of self)) (bytes : Bytes frame) where

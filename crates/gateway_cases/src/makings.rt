@@ -1,7 +1,7 @@
 // One record to be made: what the call is asked, and whether answer and record come out as a line says.
 ghost use Rattle.std.specs.Prelude.{◌≡◌, eqb, get_or};
 
-use making::{Answer, Lease};
+use making::BadRecord;
 use record::{Guest, Network};
 use wire::bytes::{byte_at, bytes_at, u32be};
 
@@ -59,27 +59,22 @@ pub fn made(line: &[u8]) -> MakingOutcome
 }
 
 fn makes(line: &[u8]) -> bool {
-    let making = making::make(
+    let number = byte_at(line, ANSWER_AT);
+    match making::make(
         bytes_at(line, MAC_AT),
         bytes_at(line, GATEWAY_AT),
         bytes_at(line, GUEST_AT),
         bytes_at(line, MASK_AT),
         lease(line),
-    );
-    let answer = making.answer;
-    let guest = making.guest;
-    let number = byte_at(line, ANSWER_AT);
-    match answer {
-        Answer::Made => (number == MADE) & vectors::same_record(guest, new_record(line)),
-        Answer::BadRecord => (number == BAD_RECORD) & vectors::same_record(guest, no_record(line)),
+    ) {
+        Ok(guest) => (number == MADE) & vectors::same_record(guest, new_record(line)),
+        // There is no record then, and the line says 0 of its lease.
+        Err(BadRecord) => (number == BAD_RECORD) & (u32be(line, LEASE_OF_RECORD_AT) == 0),
     }
 }
 
-fn lease(line: &[u8]) -> Lease {
-    if byte_at(line, LEASE_NAMED_AT) == 0 {
-        return Lease::Unnamed;
-    }
-    Lease::Named(u32be(line, LEASE_AT))
+fn lease(line: &[u8]) -> Option<u32> {
+    (byte_at(line, LEASE_NAMED_AT) != 0).then_some(u32be(line, LEASE_AT))
 }
 
 fn new_record(line: &[u8]) -> Guest {
@@ -90,15 +85,4 @@ fn new_record(line: &[u8]) -> Guest {
         lease: u32be(line, LEASE_OF_RECORD_AT),
     };
     Guest::of(bytes_at(line, MAC_AT), 1, 0, network)
-}
-
-// All zeros, where the line says so of the lease too.
-fn no_record(line: &[u8]) -> Guest {
-    let network = Network {
-        gateway: [0, 0, 0, 0],
-        guest: [0, 0, 0, 0],
-        mask: [0, 0, 0, 0],
-        lease: u32be(line, LEASE_OF_RECORD_AT),
-    };
-    Guest::of([0, 0, 0, 0, 0, 0], 0, 0, network)
 }

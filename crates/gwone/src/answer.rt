@@ -8,7 +8,7 @@ ghost use Rattle.gwone.specs.Text.{Added, IsPrefixLen, ascii, hex};
 ghost use Rattle.gwone.specs.Printed.{spaced, answer_text, guest_mac_lem, printed, room};
 
 use crate::text::{add, add_hex, add_number};
-use making::{Lease, make};
+use making::make;
 use record::{Guest, Verdict};
 
 const GUEST_MAC: [u8; 6] = [0x52, 0x54, 0x00, 0x12, 0x34, 0x56];
@@ -54,9 +54,7 @@ fn reply_space() -> [u8; 2048]
 fn new_guest() -> Guest
     ensures { result ≡ fresh guest_mac_lem document01 }
 {
-    let making = make(GUEST_MAC, GATEWAY, GUEST, MASK, Lease::Named(LEASE));
-    let guest = making.guest;
-    guest
+    make(GUEST_MAC, GATEWAY, GUEST, MASK, Some(LEASE)).unwrap()
 }
 
 // All that is printed for `input`, at the front of `text`, and where it ends.

@@ -1,8 +1,13 @@
 // The call that makes a record, for C.
 ghost use Rattle.making.specs.Over.{MadeOver, lease_asked};
 
-use making::make_over;
+use making::{BadRecord, make_over};
 use record::Guest;
+
+// Numbers of ours stand past all of document 02's.
+const MADE: u32 = 24;
+
+const BAD_RECORD: u32 = 9;
 
 // A new guest's record in the memory lent, whatever it held: 24; or 9, and the memory is left as it was.
 #[unsafe(no_mangle)]
@@ -18,7 +23,9 @@ pub extern "C" fn yavoledu_make_guest(
     ensures { MadeOver guest.old «mac».now gateway.now guest_ip.now mask.now
         (lease_asked lease_named lease) result guest.new }
 {
-    let stored = make_over(*guest, mac, gateway, guest_ip, mask, lease_named, lease);
-    *guest = stored.guest;
-    stored.number
+    let lease = (lease_named != 0).then_some(lease);
+    match make_over(guest, *mac, *gateway, *guest_ip, *mask, lease) {
+        Ok(()) => MADE,
+        Err(BadRecord) => BAD_RECORD,
+    }
 }

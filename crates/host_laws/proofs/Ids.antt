@@ -11,9 +11,8 @@ use Rattle.base.specs.Runs.{calls_of, Step, replaced, step_leaves, step_of, Unre
 use Rattle.host.proofs.OneAnswer.{yavoledu_send_settled}
 use Rattle.host.proofs.Telling.{told_number, told_value}
 use Rattle.host.specs.Exported.{Told}
-use Rattle.making.specs.Making.{paper}
 use Rattle.making.specs.Over.{MadeOver, made, refused}
-use Rattle.making.specs.declared.answer.Lease.{Lease}
+use Rattle.std.proofs.Common.{Option}
 use Rattle.record.proofs.Changes.{still_sized}
 use Rattle.record.specs.Answer.{Outcome}
 use Rattle.record.specs.Guest.{Settled}
@@ -125,19 +124,17 @@ among_others host steps who typed run = from_the_start (host who) (calls_of (ste
 
 -- A record that `yavoledu_make_guest` makes is such a fresh one: where it tells 24, the frames built from then on count from 1; where it tells 9, the record is the one that stood
 -- there, and its count goes on.
-module _ (old : Guest) (mac gateway address mask : List ℕ) (lease : Lease) (number : ℕ) (stored : Guest) (m : MadeOver old mac gateway address mask lease number stored) where
+module _ (old : Guest) (mac gateway address mask : List ℕ) (lease : Option ℕ) (number : ℕ) (stored : Guest) (m : MadeOver old mac gateway address mask lease number stored) where
   pub made_counts_from_1 : number ≡ 24 → Typed stored → (steps : List (Step Guest CallInC)) → RunInC stored steps → Unreplaced steps → CountsOn 1 (ids_in_c steps)
-  unfolding paper
   made_counts_from_1 e typed steps run unreplaced = go m
     where
       go : MadeOver old mac gateway address mask lease number stored → CountsOn 1 (ids_in_c steps)
       go (made good told is) = subst (λ (g : Guest). CountsOn g.id (ids_in_c steps)) is (from_the_start stored steps typed run unreplaced)
-      go (refused bad told is) = absurd (omega (arith, e, ap (λ (l : List ℕ). get_or l 0 0) told))
+      go (refused bad told is) = absurd (omega (arith, e, told))
 
   pub refused_is_as_before : number ≡ 9 → stored ≡ old
-  unfolding paper
   refused_is_as_before e = go m
     where
       go : MadeOver old mac gateway address mask lease number stored → stored ≡ old
-      go (made good told is) = absurd (omega (arith, e, ap (λ (l : List ℕ). get_or l 0 0) told))
+      go (made good told is) = absurd (omega (arith, e, told))
       go (refused bad told is) = is

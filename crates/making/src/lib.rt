@@ -2,10 +2,8 @@
 // by its caller.
 #![tactic(auto)]
 
-mod answer;
 mod call;
 mod over;
 
-pub use answer::{Answer, Lease, Making, Stored};
-pub use call::make;
+pub use call::{BadRecord, make};
 pub use over::make_over;

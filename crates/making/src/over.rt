@@ -1,52 +1,21 @@
-// The same for C, which lends the memory, whatever it holds, and says in a number whether a lease time is named.
-ghost use Rattle.std.specs.Prelude.{◌≡◌};
-ghost use Rattle.making.specs.Over.{MadeOver, lease_asked};
+// The same over a record that stands already, as in memory that C lends.
+ghost use Rattle.making.specs.Making.{number_of};
+ghost use Rattle.making.specs.Over.{MadeOver};
 
-use crate::answer::{Answer, Lease, Stored};
-use crate::call::make;
+use crate::call::{BadRecord, make};
 use record::Guest;
 
-// Numbers of ours stand past all of document 02's.
-const MADE: u32 = 24;
-
-const BAD_RECORD: u32 = 9;
-
-// Over what stood in the memory, `old`, which is left as it was where none is made.
+// A new guest's record in place of `guest`, which is left as it was where none is made.
 pub fn make_over(
-    old: Guest,
-    mac: &[u8; 6],
-    gateway: &[u8; 4],
-    guest: &[u8; 4],
-    mask: &[u8; 4],
-    lease_named: u32,
-    lease: u32,
-) -> Stored
-    ensures { MadeOver old «mac».now gateway.now guest.now mask.now
-        (lease_asked lease_named lease) result.number result.guest }
+    guest: &mut Guest,
+    mac: [u8; 6],
+    gateway: [u8; 4],
+    guest_ip: [u8; 4],
+    mask: [u8; 4],
+    lease: Option<u32>,
+) -> Result<(), BadRecord>
+    ensures { MadeOver guest.old mac gateway guest_ip mask lease (number_of result) guest.new }
 {
-    let making = make(*mac, *gateway, *guest, *mask, lease_of(lease_named, lease));
-    let answer = making.answer;
-    match answer {
-        Answer::Made => {
-            let new = making.guest;
-            Stored {
-                number: MADE,
-                guest: new,
-            }
-        }
-        Answer::BadRecord => Stored {
-            number: BAD_RECORD,
-            guest: old,
-        },
-    }
-}
-
-// A time counts where any number but 0 names it.
-fn lease_of(named: u32, seconds: u32) -> Lease
-    ensures { result ≡ lease_asked named seconds }
-{
-    if named == 0 {
-        return Lease::Unnamed;
-    }
-    Lease::Named(seconds)
+    *guest = make(mac, gateway, guest_ip, mask, lease)?;
+    Ok(())
 }

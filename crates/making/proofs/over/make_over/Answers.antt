@@ -2,12 +2,8 @@
 use Rattle.making.proofs.Lent.{stored_new, left_old}
 use Rattle.making.proofs.over.make_over.Goals as goal
 
-pub returns-in-Made : goal.returns-in-Made
-returns-in-Made c =
-    let m = c.make-making in
-    stored_new (rw c.lease_of.ensures at m.ensures) c.in-Made.is
+pub returns-in_err-guest : goal.returns-in_err-guest
+returns-in_err-guest c = left_old c.from_residual.result c.in_err-guest.ensures c.from_residual.ensures.0
 
-pub returns-in-BadRecord : goal.returns-in-BadRecord
-returns-in-BadRecord c =
-    let m = c.make-making in
-    left_old (rw c.lease_of.ensures at m.ensures) c.in-BadRecord.is
+pub returns : goal.returns
+returns c = stored_new c.in_ok-guest.ensures
