@@ -2,28 +2,14 @@
 //! and each with one bit changed, by addresses around the edges of networks and by lease times; then
 //! drawn ones.
 
-use crate::compare_ours;
+use crate::compare_ours::{self, MADE};
 use crate::compare_tally::grouped;
 use crate::document_01::Record;
 use crate::draws::Draws;
 use crate::making_02::{self, Asked};
 use crate::networks::Network;
 
-const MADE: u32 = 24;
 const BAD_RECORD: u32 = 9;
-
-/// What stands beside a refusal, where no record was lent.
-const NOBODY: Record = Record {
-    mac: [0; 6],
-    id: 0,
-    xid: 0,
-    network: Network {
-        gateway: [0; 4],
-        guest: [0; 4],
-        mask: [0; 4],
-        lease: 0,
-    },
-};
 
 const LEASES: [Option<u32>; 6] = [
     None,
@@ -173,9 +159,9 @@ impl Makings {
     /// With no record lent, and over one that is.
     fn compare(&mut self, asked: Asked) -> Result<(), String> {
         let mac = self.draws.mac();
-        let expected = |old| match making_02::made(asked) {
-            Some(network) => (MADE, fresh(mac, network)),
-            None => (BAD_RECORD, old),
+        let (number, made) = match making_02::made(asked) {
+            Some(network) => (MADE, Some(fresh(mac, network))),
+            None => (BAD_RECORD, None),
         };
         // Any number but 0 names a lease time, and without one what stands in its place counts for nothing.
         let (other, any) = (self.draws.word(), self.draws.word());
@@ -187,11 +173,12 @@ impl Makings {
             lease: asked.lease.unwrap_or(other),
         };
         let old = self.any_record();
+        let (number_over, over) = compare_ours::make_over(old, mac, lent, named);
         let answers = [
-            (expected(NOBODY), compare_ours::make(mac, lent, named)),
+            ((number, made), compare_ours::make(mac, lent, named)),
             (
-                expected(old),
-                compare_ours::make_over(old, mac, lent, named),
+                (number, Some(made.unwrap_or(old))),
+                (number_over, Some(over)),
             ),
         ];
         for (expected, ours) in answers {
@@ -201,9 +188,9 @@ impl Makings {
                 ));
             }
         }
-        match answers[0].0 {
-            (MADE, _) => self.made += 1,
-            _ => self.refused += 1,
+        match made {
+            Some(_) => self.made += 1,
+            None => self.refused += 1,
         }
         Ok(())
     }

@@ -266,9 +266,12 @@ pub fn plain(start: u16, input: &[u8]) -> u16 {
     unsafe { compared_plain(start, input.as_ptr(), input.len()) }
 }
 
-/// A record made with this MAC and network, and the number told. The network's lease time is named where
-/// `lease_named` is not 0.
-pub fn make(mac: [u8; 6], network: Network, lease_named: u32) -> (u32, Record) {
+/// What a record made is told as.
+pub const MADE: u32 = 24;
+
+/// A record made with this MAC and network, if one is, and the number told. The network's lease time is named
+/// where `lease_named` is not 0.
+pub fn make(mac: [u8; 6], network: Network, lease_named: u32) -> (u32, Option<Record>) {
     let (id, xid) = (!0, !0);
     let mut record = Record {
         mac,
@@ -280,7 +283,7 @@ pub fn make(mac: [u8; 6], network: Network, lease_named: u32) -> (u32, Record) {
     let (mac, at) = (record.mac.as_mut_ptr(), lent.as_mut_ptr());
     let number = unsafe { compared_make(mac, &mut record.id, &mut record.xid, at, lease_named) };
     record.network = network_of(lent);
-    (number, record)
+    (number, (number == MADE).then_some(record))
 }
 
 /// The same over an old record.
