@@ -4,3 +4,4 @@ pub mod Changes
 pub mod InBuffer
 pub mod Fitting
 pub mod Addresses
+pub mod BuiltOf

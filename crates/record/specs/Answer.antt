@@ -24,6 +24,11 @@ abbrev pub as_verdict : Result ℕ Refusal → Result Verdict Refusal
 as_verdict (Ok written) = Ok (Reply written)
 as_verdict (Err refusal) = Err refusal
 
+-- What a call answers that puts the record's id into what it writes: once that stands there, the id is spent.
+abbrev pub built_of : Guest → Result ℕ Refusal → Answer
+built_of guest (Ok written) = record { verdict = Ok (Reply written); guest = spent guest }
+built_of guest (Err refusal) = record { verdict = Err refusal; guest = guest }
+
 -- What is to come of a call that writes: the verdict's number and values, and the first bytes of the buffer; `[]` where it is left alone.
 pub record Writing : Type 0 where
   pub numbers : List ℕ

@@ -1,5 +1,6 @@
 // One guest's record, and all that makes or changes one.
 ghost use Rattle.std.specs.Prelude.{◌≡◌};
+ghost use Rattle.record.specs.Answer.{built_of};
 ghost use Rattle.record.specs.Guest.{known, noting, spent};
 
 use crate::answer::{Answer, Refusal, Verdict};
@@ -53,6 +54,16 @@ impl Guest {
         Answer {
             verdict,
             guest: self,
+        }
+    }
+
+    // The answer of a call that puts its id into what it writes: once that stands there, the id is spent.
+    pub fn built(self, written: Result<usize, Refusal>) -> Answer
+        ensures { result ≡ built_of self written }
+    {
+        match written {
+            Ok(n) => self.spend().answer(Ok(Verdict::Reply(n))),
+            Err(refusal) => self.answer(Err(refusal)),
         }
     }
 }

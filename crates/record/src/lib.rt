@@ -5,7 +5,9 @@
 mod answer;
 mod guest;
 mod network;
+mod room;
 
 pub use answer::{Answer, Refusal, Verdict};
 pub use guest::Guest;
 pub use network::{GATEWAY_MAC, Network};
+pub use room::{within_limit, within_room};
