@@ -1,6 +1,6 @@
 -- What is to come of each call that builds, from its arguments and the room: document 01, "Frames built", with the rule of 5 and 6.
 use Rattle.std.specs.Prelude.{ℕ, ◌+◌, List, length}
-use Rattle.record.specs.Answer.{Outcome, spending}
+use Rattle.record.specs.Answer.{Outcome, Writing, building, spending}
 use Rattle.base.specs.Bytes.{part}
 use Rattle.frames.specs.Frames.{ip_frame}
 use Rattle.record.specs.declared.guest.Guest.{Guest}
@@ -14,3 +14,8 @@ make_ip_frame_lem guest mac source target protocol payload room =
 abbrev pub make_ip_frame_in_place_lem : Guest → (mac source target : List ℕ) (protocol len : ℕ) (buffer : List ℕ) → Outcome
 make_ip_frame_in_place_lem guest mac source target protocol len buffer =
     spending guest 65515 len (34 + len) (length buffer) (ip_frame mac guest.id protocol source target (part buffer 34 len))
+
+-- the same with no record to hand back
+abbrev pub built_in_place : (id : ℕ) (mac source target : List ℕ) (protocol len : ℕ) (buffer : List ℕ) → Writing
+built_in_place id mac source target protocol len buffer =
+    building 65515 len (34 + len) (length buffer) (ip_frame mac id protocol source target (part buffer 34 len))

@@ -9,6 +9,7 @@ use record::GATEWAY_MAC;
 pub fn ethernet_header(mac: [u8; 6], kind: u16) -> [u8; 14]
     ensures { result ≡ ethernet mac gateway_mac kind }
 {
+    let kind = kind.to_be_bytes();
     [
         mac[0],
         mac[1],
@@ -22,7 +23,7 @@ pub fn ethernet_header(mac: [u8; 6], kind: u16) -> [u8; 14]
         GATEWAY_MAC[3],
         GATEWAY_MAC[4],
         GATEWAY_MAC[5],
-        (kind / 256) as u8,
-        (kind % 256) as u8,
+        kind[0],
+        kind[1],
     ]
 }

@@ -1,14 +1,14 @@
 // IPv4 packets in Ethernet frames.
 ghost use Rattle.std.specs.Prelude.{◌≡◌, length};
 ghost use Rattle.base.specs.Buffer.{put_if_fits};
-ghost use Rattle.record.specs.Answer.{Meets};
-ghost use Rattle.frames.specs.Builders.{make_ip_frame_lem, make_ip_frame_in_place_lem};
+ghost use Rattle.record.specs.Answer.{Meets, Wrote, as_verdict};
+ghost use Rattle.frames.specs.Builders.{built_in_place, make_ip_frame_lem, make_ip_frame_in_place_lem};
 ghost use Rattle.frames.specs.Frames.{headers};
 ghost use Rattle.wire.specs.Rfc791.{header_with_lem, header as Rfc791·header};
 
 use crate::ethernet::ethernet_header;
 use base::put;
-use record::{Answer, Guest, Verdict};
+use record::{Answer, Guest, Refusal, within_limit, within_room};
 use sums::checksum;
 use wire::ethernet;
 use wire::ipv4::{HEADER, PAYLOAD_LIMIT};
@@ -16,6 +16,16 @@ use wire::ipv4::{HEADER, PAYLOAD_LIMIT};
 const HEADER_AT: usize = ethernet::HEADER;
 
 const PAYLOAD_AT: usize = HEADER_AT + HEADER;
+
+// What differs from packet to packet in its header: its length with the header, its id, what it carries, and between whom.
+#[derive(Clone, Copy)]
+pub struct Packet {
+    pub total: u16,
+    pub id: u16,
+    pub proto: u8,
+    pub src_ip: [u8; 4],
+    pub dst_ip: [u8; 4],
+}
 
 // A frame around `payload`, to `dst_mac` from the gateway.
 pub fn make_ip_frame(
@@ -32,17 +42,14 @@ pub fn make_ip_frame(
         out.old out.new result }
 {
     let len = payload.len();
-    if PAYLOAD_LIMIT < len {
-        return guest.answer(Verdict::TooLong(len));
+    let answer = make_ip_frame_in_place(guest, dst_mac, src_ip, dst_ip, proto, len, out);
+    if answer.verdict.is_ok() {
+        put(out, PAYLOAD_AT, payload);
     }
-    if out.len() < PAYLOAD_AT + len {
-        return guest.answer(Verdict::NoRoom(PAYLOAD_AT + len));
-    }
-    put(out, PAYLOAD_AT, payload);
-    make_ip_frame_in_place(guest, dst_mac, src_ip, dst_ip, proto, len, out)
+    answer
 }
 
-// The same where the payload already lies in the buffer: its `len` bytes from 34 on.
+// The same where the payload lies in the buffer, or is put there afterwards: its `len` bytes from 34 on.
 pub fn make_ip_frame_in_place(
     guest: Guest,
     dst_mac: [u8; 6],
@@ -56,82 +63,68 @@ pub fn make_ip_frame_in_place(
         (make_ip_frame_in_place_lem guest dst_mac src_ip dst_ip proto len out.old)
         out.old out.new result }
 {
-    if PAYLOAD_LIMIT < len {
-        return guest.answer(Verdict::TooLong(len));
-    }
-    if out.len() < PAYLOAD_AT + len {
-        return guest.answer(Verdict::NoRoom(PAYLOAD_AT + len));
-    }
-    put_headers(
-        dst_mac,
-        guest.id,
-        src_ip,
-        dst_ip,
-        proto,
-        (HEADER + len) as u16,
-        out,
-    );
-    guest.spend().answer(Verdict::Reply(PAYLOAD_AT + len))
+    let id = guest.id;
+    guest.built(build_in_place(id, dst_mac, src_ip, dst_ip, proto, len, out))
 }
 
-// The headers of a packet of `total` bytes, at the front of `out`; where they do not fit, nothing is written.
-pub fn put_headers(
-    dst_mac: [u8; 6],
+// The same with no record to hand back: the bytes written, or why none was.
+fn build_in_place(
     id: u16,
+    dst_mac: [u8; 6],
     src_ip: [u8; 4],
     dst_ip: [u8; 4],
     proto: u8,
-    total: u16,
+    len: usize,
     out: &mut [u8],
-)
-    ensures { out.new ≡ put_if_fits 0 (headers dst_mac total id proto src_ip dst_ip) out.old }
+) -> Result<usize, Refusal>
+    ensures { Wrote
+        (built_in_place id dst_mac src_ip dst_ip proto len out.old)
+        out.old out.new (as_verdict result) }
+{
+    within_limit(PAYLOAD_LIMIT, len)?;
+    let need = within_room(out.len(), PAYLOAD_AT + len)?;
+    let packet = Packet {
+        total: (HEADER + len) as u16,
+        id,
+        proto,
+        src_ip,
+        dst_ip,
+    };
+    put_headers(dst_mac, packet, out);
+    Ok(need)
+}
+
+// The headers of a packet, at the front of `out`; where they do not fit, nothing is written.
+pub fn put_headers(dst_mac: [u8; 6], packet: Packet, out: &mut [u8])
+    ensures { out.new ≡ put_if_fits 0 (headers dst_mac packet.total packet.id packet.proto packet.src_ip packet.dst_ip) out.old }
 {
     if out.len() < PAYLOAD_AT {
         return;
     }
-    let outer = ethernet_header(dst_mac, ethernet::IPV4);
-    let ip = header(total, id, proto, src_ip, dst_ip);
-    put(out, 0, &outer);
-    put(out, HEADER_AT, &ip);
+    put(out, 0, &ethernet_header(dst_mac, ethernet::IPV4));
+    put(out, HEADER_AT, &packet.header());
 }
 
-fn header(total: u16, id: u16, proto: u8, src_ip: [u8; 4], dst_ip: [u8; 4]) -> [u8; 20]
-    ensures { result ≡ Rfc791·header total id proto src_ip dst_ip }
-{
-    let blank = header_with(0, total, id, proto, src_ip, dst_ip);
-    header_with(checksum(&blank), total, id, proto, src_ip, dst_ip)
-}
+impl Packet {
+    #[tactic(auto, unfolding(wire::specs::Rfc791::header))]
+    fn header(self) -> [u8; 20]
+        ensures { result ≡ Rfc791·header self.total self.id self.proto self.src_ip self.dst_ip }
+    {
+        self.header_with(checksum(&self.header_with(0)))
+    }
 
-fn header_with(
-    csum: u16,
-    total: u16,
-    id: u16,
-    proto: u8,
-    src_ip: [u8; 4],
-    dst_ip: [u8; 4],
-) -> [u8; 20]
-    ensures { result ≡ header_with_lem csum total id proto src_ip dst_ip }
-{
-    [
-        0x45,
-        0,
-        (total / 256) as u8,
-        (total % 256) as u8,
-        (id / 256) as u8,
-        (id % 256) as u8,
-        0x40,
-        0x00,
-        64,
-        proto,
-        (csum / 256) as u8,
-        (csum % 256) as u8,
-        src_ip[0],
-        src_ip[1],
-        src_ip[2],
-        src_ip[3],
-        dst_ip[0],
-        dst_ip[1],
-        dst_ip[2],
-        dst_ip[3],
-    ]
+    fn header_with(self, csum: u16) -> [u8; 20]
+        ensures { result ≡ header_with_lem csum self.total self.id self.proto self.src_ip self.dst_ip }
+    {
+        let total = self.total.to_be_bytes();
+        let id = self.id.to_be_bytes();
+        let csum = csum.to_be_bytes();
+        let source = self.src_ip;
+        let target = self.dst_ip;
+        [
+            0x45, 0, total[0], total[1], id[0], id[1], 0x40, 0x00, 64, self.proto, csum[0],
+            csum[1], source[0], source[1], source[2], source[3], target[0], target[1], target[2],
+            target[3],
+        ]
+    }
 }

@@ -5,4 +5,4 @@ mod ethernet;
 mod ipv4;
 
 pub use ethernet::ethernet_header;
-pub use ipv4::{make_ip_frame, make_ip_frame_in_place, put_headers};
+pub use ipv4::{Packet, make_ip_frame, make_ip_frame_in_place, put_headers};

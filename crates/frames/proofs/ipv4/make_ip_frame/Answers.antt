@@ -1,19 +1,28 @@
--- `ipv4::make_ip_frame` meets its contract: the payload is put at 34 and framed in place.
-use mathlib.Core.Path.{refl, ◌∙◌}
+-- `ipv4::make_ip_frame` meets its contract: the payload is put behind the headers of its length.
+use Prim.Native.Nat.{ℕ}
+use mathlib.Core.Path.{◌∙◌, sym, ap}
+use mathlib.Core.List.{List}
 use native.Mathlib.Omega.{arith}
 use Rattle.base.proofs.Lists.{fits}
-use Rattle.frames.proofs.Framed.{framed_there}
-use Rattle.record.proofs.Built.{refused_too_long, refused_no_room}
+use Rattle.base.specs.Buffer.{put}
+use Rattle.frames.proofs.Framed.{framed_over}
 use Rattle.frames.proofs.ipv4.make_ip_frame.Goals as goal
+use Rattle.record.proofs.BuiltOf.{on_ok, written_over, left_alone}
 
-pub returns-then-len-gt-PAYLOAD_LIMIT : goal.returns-then-len-gt-PAYLOAD_LIMIT
-returns-then-len-gt-PAYLOAD_LIMIT c = rw c.answer.ensures (refused_too_long _ _ _ _ _ _ _ c.if-len-gt-PAYLOAD_LIMIT.true)
-
-pub returns-then-out-len : goal.returns-then-out-len
-returns-then-out-len c = rw c.answer-then-out-len.ensures (refused_no_room _ _ _ _ _ _ _ _ (omega arith) c.if-len-gt-PAYLOAD_LIMIT.false c.if-out-len.true)
-
-pub returns : goal.returns
-returns c =
+pub returns-then-is_ok : goal.returns-then-is_ok
+returns-then-is_ok c =
     let a = c.args in
-    framed_there a.dst_mac a.src_ip a.dst_ip (omega (arith, c.well_formed)) (omega (arith, c.well_formed)) (omega (arith, c.well_formed)) a.guest _ _ _ a.guest.id a.proto a.payload.now a.out.now
-    _ _ _ _ refl (c.put.ensures ∙ fits _ _ _ (omega arith)) refl (omega arith) (omega arith) (omega arith) c.make_ip_frame_in_place.ensures
+    let v = c.make_ip_frame_in_place-answer in
+    let ok = sym c.is_ok.ensures.value ∙ c.if-is_ok.true in
+    let b = on_ok a.guest _ _ _ _ _ a.out.now v.new.out v.result v.ensures ok in
+    written_over a.guest _ _ _ _ _ a.out.now v.new.out v.result v.ensures _ _ ok
+    (c.put.ensures
+    ∙ fits _ _ _ (omega arith)
+    ∙ ap (λ (s : List ℕ). put 34 a.payload.now s) b.2
+    ∙ framed_over a.dst_mac a.src_ip a.dst_ip (omega (arith, c.well_formed)) (omega (arith, c.well_formed)) (omega (arith, c.well_formed)) a.guest.id a.proto a.payload.now a.out.now b.1)
+
+pub returns-else-is_ok : goal.returns-else-is_ok
+returns-else-is_ok c =
+    let a = c.args in
+    let v = c.make_ip_frame_in_place-answer in
+    left_alone a.guest _ _ _ _ _ a.out.now v.new.out v.result v.ensures _ (sym c.is_ok.ensures.value ∙ c.if-is_ok.false)

@@ -10,14 +10,16 @@ use Rattle.frames.proofs.ipv4.put_headers.Goals as goal
 pub returns-then-out-lt-PAYLOAD_AT : goal.returns-then-out-lt-PAYLOAD_AT
 returns-then-out-lt-PAYLOAD_AT c =
     let a = c.args in
-    sym (no_fit 0 _ a.out.now (omega (arith, length_headers a.src_ip a.dst_ip (omega (arith, c.well_formed)) (omega (arith, c.well_formed)) a.dst_mac a.total a.id a.proto (omega (arith, c.well_formed)))))
+    let p = a.packet in
+    sym (no_fit 0 _ a.out.now (omega (arith, length_headers p.src_ip p.dst_ip (omega (arith, c.well_formed)) (omega (arith, c.well_formed)) a.dst_mac p.total p.id p.proto (omega (arith, c.well_formed)))))
 
 pub returns : goal.returns
 returns c =
     let room = c.if-out-lt-PAYLOAD_AT.false in
     let a = c.args in
+    let p = a.packet in
     let six : length a.dst_mac ≡ 6 = omega (arith, c.well_formed) in
-    let four : length a.src_ip ≡ 4 = omega (arith, c.well_formed) in
-    let four' : length a.dst_ip ≡ 4 = omega (arith, c.well_formed) in
-    two_pieces _ _ 14 20 a.out.now _ _ _ _ (length_ethernet a.dst_mac 0x0800 six) (length_header a.src_ip a.dst_ip four four' a.total a.id a.proto) (omega (arith, room))
-    c.ethernet_header-outer.ensures c.header-ip.ensures c.put.ensures c.put-2.ensures
+    let four : length p.src_ip ≡ 4 = omega (arith, c.well_formed) in
+    let four' : length p.dst_ip ≡ 4 = omega (arith, c.well_formed) in
+    two_pieces _ _ 14 20 a.out.now _ _ _ _ (length_ethernet a.dst_mac 0x0800 six) (length_header p.src_ip p.dst_ip four four' p.total p.id p.proto) (omega (arith, room))
+    c.ethernet_header.ensures c.header.ensures c.put.ensures c.put-2.ensures
