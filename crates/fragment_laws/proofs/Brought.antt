@@ -8,17 +8,17 @@ use native.Mathlib.Omega.{arith}
 use borrow.Author.Tests.{not-false, eqb-true}
 use lib.Dec.{eqb, ltb}
 use lib.ListN.{length, drop}
+use Rattle.std.specs.Prelude.{Option, Result, Ok, Err}
 use Rattle.bitmap.specs.Bitmap.{bit, count, having, blocks_of_lem}
 use Rattle.wire.specs.Rfc894.{body}
 use Rattle.fragments.specs.Promises.{Effect, Takes}
 use Rattle.fragment_packets.specs.Packets.{packet_of}
 use Rattle.fragments.specs.Outcomes.{Outcome, settled, outcome_of}
-use Rattle.fragment_rules.specs.Rules.{first_block, stop_block, same_datagram, is_held, known_end_lem, wrong_end, end_with_lem, ruling}
-use Rattle.fragment_packets.specs.Packets.{end_of}
+use Rattle.fragment_rules.specs.Rules.{same_datagram, is_held, known_end_lem, wrong_end, end_with_lem, ruling}
+use Rattle.fragment_packets.specs.Packets.{end_of, first_block, stop_block}
 use Rattle.fragments.specs.Answer as Answer
 use Rattle.fragment_packets.specs.declared.packet.Datagram.{Datagram}
-use Rattle.fragment_rules.specs.declared.answer.End.{End}
-use Rattle.fragment_rules.specs.declared.answer.End.TheVariants.{Unknown, At}
+use Rattle.fragment_rules.specs.declared.answer.Refusal.{Refusal}
 use Rattle.fragment_rules.specs.declared.answer.State.{State}
 use Rattle.fragment_rules.specs.declared.answer.State.TheVariants.{Empty, Filling, Complete}
 use Rattle.fragment_packets.specs.declared.packet.Fragment.{Fragment}
@@ -59,26 +59,26 @@ before : (s : State) (d : Datagram) (bytes bits : List ℕ) (came : List (List �
 unfolding is_held known_end_lem
 before Empty d bytes bits came free m = λ place there h. absurd (omega (arith, m (place / 8)))
 before (Filling held end) d bytes bits came free m = subst (λ (x : Datagram). Knows x end bytes bits came) (same_name held d (not-false _ free)) m
-before (Complete held n) d bytes bits came free m = let z : ◌≡◌ {A = ℕ} 0 1 = cc in absurd (omega arith)
+before (Complete held n) d bytes bits came free m = cc
 
 -- a stored fragment brings its own places up to the end, and what was known stays
-covers : (frame : List ℕ) → Fit frame → (k : End) (place : ℕ) (t : Bool) → (piece frame).last ≡ t
-    → BeforeEnd (cond t (At (end_of (piece frame))) k) place → first_block (piece frame) ≤ place / 8 → place / 8 < stop_block (piece frame) → Covers place frame
+covers : (frame : List ℕ) → Fit frame → (k : Option ℕ) (place : ℕ) (t : Bool) → (piece frame).last ≡ t
+    → BeforeEnd (cond t (Option.Some (end_of (piece frame))) k) place → first_block (piece frame) ≤ place / 8 → place / 8 < stop_block (piece frame) → Covers place frame
 unfolding blocks_of_lem
 covers frame fit k place true e h l u = (omega (arith, at_block (body frame)), h)
 covers frame fit k place false e h l u = (omega (arith, at_block (body frame)), omega (arith, ends_at_block frame (piece frame) fit e))
 
 -- a place before the new end is before the old one
-earlier : (f : Fragment) (there : ℕ → ℕ) (k : End) (place : ℕ) (t : Bool) → f.last ≡ t → wrong_end f k there ≡ false → BeforeEnd (cond t (At (end_of f)) k) place → BeforeEnd k place
+earlier : (f : Fragment) (there : ℕ → ℕ) (k : Option ℕ) (place : ℕ) (t : Bool) → f.last ≡ t → wrong_end f k there ≡ false → BeforeEnd (cond t (Option.Some (end_of f)) k) place → BeforeEnd k place
 unfolding wrong_end
-earlier f there Unknown place t e right h = tt
-earlier f there (At n) place true e right h = let w : (true || ltb n (end_of f)) ≡ false = rw e at right in let z : ◌≡◌ {A = ℕ} 0 1 = cc in absurd (omega arith)
-earlier f there (At n) place false e right h = h
+earlier f there Option.None place t e right h = tt
+earlier f there (Option.Some n) place true e right h = let w : (true || ltb n (end_of f)) ≡ false = rw e at right in cc
+earlier f there (Option.Some n) place false e right h = h
 
 -- a fragment is written
 module _ (store : Store) (frame : List ℕ) (call : Call) (fit : Fit frame) (w : Written store frame call) where
   -- what is known then
-  next : (k : End) (came : List (List ℕ)) → wrong_end (piece frame) k (bit store.bits) ≡ false → Knows (piece frame).datagram k store.bytes store.bits came
+  next : (k : Option ℕ) (came : List (List ℕ)) → wrong_end (piece frame) k (bit store.bits) ≡ false → Knows (piece frame).datagram k store.bytes store.bits came
       → Knows (piece frame).datagram (end_with_lem (piece frame) k) call.bytes call.bits (frame ∷ came)
   unfolding end_with_lem blocks_of_lem
   next k came right knows place there h = go (block (bit store.bits) (first_block (piece frame)) (stop_block (piece frame)) (place / 8))
@@ -92,11 +92,11 @@ module _ (store : Store) (frame : List ℕ) (call : Call) (fit : Fit frame) (w :
           (knows place (sym e ∙ sym (w.each_bit (place / 8)) ∙ there) (earlier (piece frame) (bit store.bits) k place (piece frame).last refl right h)))
 
 -- what a settled store means
-settles : (d : Datagram) (end : End) (there : ℕ → ℕ) (bytes bits : List ℕ) (came : List (List ℕ)) → ((b : ℕ) → bit bits b ≡ there b)
+settles : (d : Datagram) (end : Option ℕ) (there : ℕ → ℕ) (bytes bits : List ℕ) (came : List (List ℕ)) → ((b : ℕ) → bit bits b ≡ there b)
     → Knows d end bytes bits came → Means (settled d end there).state bytes bits came
 unfolding settled blocks_of_lem
-settles d Unknown there bytes bits came each_bit knows = knows
-settles d (At n) there bytes bits came each_bit knows = go (eqb (count there 0 (blocks_of_lem n)) (blocks_of_lem n)) refl
+settles d Option.None there bytes bits came each_bit knows = knows
+settles d (Option.Some n) there bytes bits came each_bit knows = go (eqb (count there 0 (blocks_of_lem n)) (blocks_of_lem n)) refl
   where
     all : count there 0 (blocks_of_lem n) ≡ blocks_of_lem n → (b : ℕ) → b * 8 < n → bit bits b ≡ 1
     all same b h =
@@ -105,7 +105,7 @@ settles d (At n) there bytes bits came each_bit knows = go (eqb (count there 0 (
         omega (arith, each_bit b, bit_at_most_1 bits b)
 
     go : (t : Bool) → eqb (count there 0 (blocks_of_lem n)) (blocks_of_lem n) ≡ t
-        → Means (cond {A = Outcome} t (record { said = Answer.complete; state = Complete d n }) (record { said = Answer.stored; state = Filling d (At n) })).state bytes bits came
+        → Means (cond {A = Outcome} t (record { said = Answer.complete; state = Complete d n }) (record { said = Answer.stored; state = Filling d (Option.Some n) })).state bytes bits came
     go true e = (knows, all (eqb-true _ _ e))
     go false e = knows
 
@@ -114,23 +114,23 @@ module _ (store : Store) (sized : Sized store) (frame : List ℕ) (call : Call) 
     (t : Takes store.state frame store.bytes store.bits call.bytes call.bits call.taken)
     (m : Means store.state store.bytes store.bits came) where
   -- a fragment is stored
-  stores : (f : Fragment) (end : End) → Stored store.state (bit store.bits) (packet_of frame) f end
-      → Effect (Ruling.Write f end) frame store.bytes store.bits call.bytes call.bits
+  stores : (f : Fragment) (end : Option ℕ) → Stored store.state (bit store.bits) (packet_of frame) f end
+      → Effect (Ok (Ruling.Write f end)) frame store.bytes store.bits call.bytes call.bits
       → Means (settled f.datagram end (having (bit store.bits) (first_block f) (stop_block f))).state call.bytes call.bits (frame ∷ came) × Sized (after call)
   stores f end fs effect =
       let P : Fragment → Type 0 = λ g.
-      Stored store.state (bit store.bits) (packet_of frame) g end → Effect (Ruling.Write g end) frame store.bytes store.bits call.bytes call.bits
+      Stored store.state (bit store.bits) (packet_of frame) g end → Effect (Ok (Ruling.Write g end)) frame store.bytes store.bits call.bytes call.bits
       → Means (settled g.datagram end (having (bit store.bits) (first_block g) (stop_block g))).state call.bytes call.bits (frame ∷ came) × Sized (after call) in
       subst P (part_is frame f fs.is_part) own fs effect
     where
-      own : Stored store.state (bit store.bits) (packet_of frame) (piece frame) end → Effect (Ruling.Write (piece frame) end) frame store.bytes store.bits call.bytes call.bits
+      own : Stored store.state (bit store.bits) (packet_of frame) (piece frame) end → Effect (Ok (Ruling.Write (piece frame) end)) frame store.bytes store.bits call.bytes call.bits
           → Means (settled (piece frame).datagram end (there_with store frame)).state call.bytes call.bits (frame ∷ came) × Sized (after call)
       own fs effect =
           let fit : Fit frame = fs.is_part in
           let w = written store frame call end sized fit effect in
           let known = before store.state (piece frame).datagram store.bytes store.bits came fs.free m in
           let then = next store frame call fit w (known_end_lem store.state) came fs.right_end known in
-          let ends = subst (λ (k : End). Knows (piece frame).datagram k call.bytes call.bits (frame ∷ came)) fs.ends then in (
+          let ends = subst (λ (k : Option ℕ). Knows (piece frame).datagram k call.bytes call.bits (frame ∷ came)) fs.ends then in (
             settles (piece frame).datagram end (there_with store frame) call.bytes call.bits (frame ∷ came) w.each_bit ends,
             w.still_sized,
           )
@@ -142,18 +142,18 @@ module _ (store : Store) (sized : Sized store) (frame : List ℕ) (call : Call) 
       let r = go (ruling store.state frame (length store.bytes) store.bits) refl t.store in
       (subst (λ (s : State). Means s call.bytes call.bits (frame ∷ came)) (sym t.next) r.0, r.1)
     where
-      same : Effect (Ruling.Pass) frame store.bytes store.bits call.bytes call.bits → Means store.state call.bytes call.bits (frame ∷ came) × Sized (after call)
+      same : Effect (Ok Ruling.Pass) frame store.bytes store.bits call.bytes call.bits → Means store.state call.bytes call.bits (frame ∷ came) × Sized (after call)
       same u = (
         subst (λ (l : List ℕ). Means store.state l call.bits (frame ∷ came)) (sym u.kept_bytes)
             (subst (λ (l : List ℕ). Means store.state store.bytes l (frame ∷ came)) (sym u.kept_bits) (one_more store.state store.bytes store.bits frame came m)),
         record { bytes_lent = ap length u.kept_bytes ∙ sized.bytes_lent; bits_lent = ap length u.kept_bits ∙ sized.bits_lent },
       )
 
-      go : (r : Ruling) → ruling store.state frame (length store.bytes) store.bits ≡ r → Effect r frame store.bytes store.bits call.bytes call.bits
+      go : (r : Result Ruling Refusal) → ruling store.state frame (length store.bytes) store.bits ≡ r → Effect r frame store.bytes store.bits call.bytes call.bits
           → Means (outcome_of store.state (bit store.bits) r).state call.bytes call.bits (frame ∷ came) × Sized (after call)
-      go (Ruling.Refuse a) e u = same u
-      go Ruling.Pass e u = same u
-      go (Ruling.Write f end) e u = stores f end (stored store.state frame (length store.bytes) store.bits f end e).1 u
+      go (Err refusal) e u = same u
+      go (Ok Ruling.Pass) e u = same u
+      go (Ok (Ruling.Write f end)) e u = stores f end (stored store.state frame (length store.bytes) store.bits f end e).1 u
 
 -- call by call
 pub means : (frames : List (List ℕ)) (store : Store) (calls : List Call) (came : List (List ℕ)) → Sized store → Means store.state store.bytes store.bits came

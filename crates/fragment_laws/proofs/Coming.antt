@@ -7,16 +7,16 @@ use mathlib.Core.List.{List, [], ◌∷◌}
 use native.Mathlib.Omega.{arith}
 use borrow.Author.Tests.{le-ltb, eq-eqb, ne_eqb}
 use lib.ListN.{length, get_or}
+use Rattle.std.specs.Prelude.{Option, Result, Ok}
 use Rattle.bitmap.specs.Bitmap.{bit, count, blocks_of_lem}
 use Rattle.wire.specs.Rfc894.{body}
 use Rattle.fragments.specs.Answer.{stored, complete, said_for}
 use Rattle.fragments.specs.Promises.{Effect, Takes}
 use Rattle.fragments.specs.Outcomes.{Outcome, settled, outcome_of}
-use Rattle.fragment_rules.specs.Rules.{of_size_lem, first_block, stop_block, same_datagram, is_held, known_end_lem, overlaps, wrong_end, end_with_lem, part_ruling, packet_ruling, ruling}
-use Rattle.fragment_packets.specs.Packets.{end_of}
+use Rattle.fragment_rules.specs.Rules.{of_size_lem, same_datagram, is_held, known_end_lem, overlaps, wrong_end, end_with_lem, part_ruling, packet_ruling, ruling}
+use Rattle.fragment_packets.specs.Packets.{end_of, first_block, stop_block}
 use Rattle.fragment_packets.specs.declared.packet.Datagram.{Datagram}
-use Rattle.fragment_rules.specs.declared.answer.End.{End}
-use Rattle.fragment_rules.specs.declared.answer.End.TheVariants.{Unknown, At}
+use Rattle.fragment_rules.specs.declared.answer.Refusal.{Refusal}
 use Rattle.fragment_rules.specs.declared.answer.State.TheVariants.{Filling, Complete}
 use Rattle.fragment_rules.specs.declared.ruling.Ruling.{Ruling}
 use Rattle.fragment_packets.proofs.Fitting.{at_block, part_fits}
@@ -39,9 +39,9 @@ abbrev pub LastAt : (end : ℕ) (frame : List ℕ) → Type 0
 LastAt end frame = ((piece frame).last ≡ true) × (end_of (piece frame) ≡ end)
 
 -- the end is not known and its fragment is to come, or it is and has come
-abbrev pub EndSoFar : (end : ℕ) → End → List (List ℕ) → Type 0
-EndSoFar end Unknown todo = (lasts todo ≡ 1) × Some (LastAt end) todo
-EndSoFar end (At e) todo = (e ≡ end) × (lasts todo ≡ 0)
+abbrev pub EndSoFar : (end : ℕ) → Option ℕ → List (List ℕ) → Type 0
+EndSoFar end Option.None todo = (lasts todo ≡ 1) × Some (LastAt end) todo
+EndSoFar end (Option.Some e) todo = (e ≡ end) × (lasts todo ≡ 0)
 
 -- between two calls
 pub record Coming (d : Datagram) (end : ℕ) (store : Store) (todo : List (List ℕ)) : Type 0 where
@@ -66,20 +66,20 @@ module _ (end : ℕ) (frame : List ℕ) (todo : List (List ℕ)) where
   is_the_last n (inr s) e = absurd (omega (arith, some_last end todo s, rw e at n))
 
   -- one that is not the last leaves the last to come
-  is_not : lasts (frame ∷ todo) ≡ 1 → Some (LastAt end) (frame ∷ todo) → (piece frame).last ≡ false → EndSoFar end Unknown todo
+  is_not : lasts (frame ∷ todo) ≡ 1 → Some (LastAt end) (frame ∷ todo) → (piece frame).last ≡ false → EndSoFar end Option.None todo
   is_not n (inl h) e = absurd (true≢false (sym h.0 ∙ e))
   is_not n (inr s) e = (omega (arith, rw e at n), s)
 
   -- what is known of the end once the fragment has come
-  next_end : (k : End) → EndSoFar end k (frame ∷ todo) → EndSoFar end (end_with_lem (piece frame) k) todo
+  next_end : (k : Option ℕ) → EndSoFar end k (frame ∷ todo) → EndSoFar end (end_with_lem (piece frame) k) todo
   unfolding end_with_lem
   next_end k h = go (piece frame).last refl k h
     where
-      go : (t : Bool) → (piece frame).last ≡ t → (k : End) → EndSoFar end k (frame ∷ todo) → EndSoFar end (cond t (At (end_of (piece frame))) k) todo
-      go true e Unknown h = is_the_last h.0 h.1 e
-      go true e (At end') h = absurd (omega (arith, rw e at h.1))
-      go false e Unknown h = is_not h.0 h.1 e
-      go false e (At end') h = (h.0, omega (arith, rw e at h.1))
+      go : (t : Bool) → (piece frame).last ≡ t → (k : Option ℕ) → EndSoFar end k (frame ∷ todo) → EndSoFar end (cond t (Option.Some (end_of (piece frame))) k) todo
+      go true e Option.None h = is_the_last h.0 h.1 e
+      go true e (Option.Some end') h = absurd (omega (arith, rw e at h.1))
+      go false e Option.None h = is_not h.0 h.1 e
+      go false e (Option.Some end') h = (h.0, omega (arith, rw e at h.1))
 
 -- a block is one of the fragment's or another
 abbrev BlockWith : Store → (frame : List ℕ) (b : ℕ) → Type 0
@@ -88,16 +88,16 @@ BlockWith store frame b = Block (bit store.bits) (first_block (piece frame)) (st
 -- when a datagram is complete
 module _ (d : Datagram) (end : ℕ) (there : ℕ → ℕ) (todo : List (List ℕ)) where
   -- no last is to come and each block is there
-  complete_at_last : (k : End) → EndSoFar end k todo → lasts todo ≡ 0 → ((b : ℕ) → b * 8 < end → there b ≡ 1) → settled d k there ≡ record { said = complete; state = Complete d end }
+  complete_at_last : (k : Option ℕ) → EndSoFar end k todo → lasts todo ≡ 0 → ((b : ℕ) → b * 8 < end → there b ≡ 1) → settled d k there ≡ record { said = complete; state = Complete d end }
   unfolding settled blocks_of_lem
-  complete_at_last Unknown h none all = absurd (omega (arith, h.0))
-  complete_at_last (At e) h none all = rw (h.0, eq-eqb _ (blocks_of_lem end) (count_all there 0 (blocks_of_lem end) (λ b l u. all b (omega arith))))
+  complete_at_last Option.None h none all = absurd (omega (arith, h.0))
+  complete_at_last (Option.Some e) h none all = rw (h.0, eq-eqb _ (blocks_of_lem end) (count_all there 0 (blocks_of_lem end) (λ b l u. all b (omega arith))))
 
   -- a block before the end is not
-  stored_before : ((b : ℕ) → there b ≤ 1) → (b : ℕ) → b * 8 < end → there b ≡ 0 → (k : End) → EndSoFar end k todo → settled d k there ≡ record { said = stored; state = Filling d k }
+  stored_before : ((b : ℕ) → there b ≤ 1) → (b : ℕ) → b * 8 < end → there b ≡ 0 → (k : Option ℕ) → EndSoFar end k todo → settled d k there ≡ record { said = stored; state = Filling d k }
   unfolding settled blocks_of_lem
-  stored_before at_most_1 b before absent Unknown h = refl
-  stored_before at_most_1 b before absent (At e) h =
+  stored_before at_most_1 b before absent Option.None h = refl
+  stored_before at_most_1 b before absent (Option.Some e) h =
       let missing = count_missing there at_most_1 0 (blocks_of_lem e) b (omega arith) (omega (arith, h.0)) absent in
       rw (ne_eqb (count there 0 (blocks_of_lem e)) (blocks_of_lem e) (λ same. omega arith))
 
@@ -114,7 +114,7 @@ module _ (d : Datagram) (end : ℕ) (store : Store) (frame : List ℕ) (todo : L
   no_overlap = rw (eq-eqb _ 0 (count_none (bit store.bits) (first_block (piece frame)) (stop_block (piece frame) - first_block (piece frame)) (λ b l u. c.awaited.0.absent b l (omega arith))))
 
   -- nor 13
-  no_wrong_end : (k : End) → EndSoFar end k (frame ∷ todo) → wrong_end (piece frame) k (bit store.bits) ≡ false
+  no_wrong_end : (k : Option ℕ) → EndSoFar end k (frame ∷ todo) → wrong_end (piece frame) k (bit store.bits) ≡ false
   unfolding wrong_end blocks_of_lem
   no_wrong_end k h = go (piece frame).last refl k h
     where
@@ -123,15 +123,15 @@ module _ (d : Datagram) (end : ℕ) (store : Store) (frame : List ℕ) (todo : L
           let out : bit store.bits b ≡ 1 → ⊥ = λ there. omega (arith, c.before_end b there) in
           omega (arith, bit_at_most_1 store.bits b)
 
-      go : (t : Bool) → (piece frame).last ≡ t → (k : End) → EndSoFar end k (frame ∷ todo) → wrong_end (piece frame) k (bit store.bits) ≡ false
-      go true e Unknown h =
+      go : (t : Bool) → (piece frame).last ≡ t → (k : Option ℕ) → EndSoFar end k (frame ∷ todo) → wrong_end (piece frame) k (bit store.bits) ≡ false
+      go true e Option.None h =
           rw (e, eq-eqb _ 0 (count_none (bit store.bits) (stop_block (piece frame)) (8192 - stop_block (piece frame)) (λ b l u. none_behind (is_the_last end frame todo h.0 h.1 e).0 b l)))
-      go true e (At end') h = absurd (omega (arith, rw e at h.1))
-      go false e Unknown h = rw e
-      go false e (At end') h = rw (e, le-ltb end' (end_of (piece frame)) (omega (arith, h.0, c.awaited.0.within)))
+      go true e (Option.Some end') h = absurd (omega (arith, rw e at h.1))
+      go false e Option.None h = rw e
+      go false e (Option.Some end') h = rw (e, le-ltb end' (end_of (piece frame)) (omega (arith, h.0, c.awaited.0.within)))
 
   -- so it is stored
-  rules : ruling store.state frame (length store.bytes) store.bits ≡ Ruling.Write (piece frame) (end_with_lem (piece frame) (known_end_lem store.state))
+  rules : ruling store.state frame (length store.bytes) store.bits ≡ Ok (Ruling.Write (piece frame) (end_with_lem (piece frame) (known_end_lem store.state)))
   unfolding ruling packet_ruling part_ruling of_size_lem
   rules =
       rw (eq-eqb _ _ c.sized.bytes_lent, eq-eqb _ _ c.sized.bits_lent, c.awaited.0.fit, ap (is_held store.state) c.awaited.0.name ∙ c.free, no_overlap, no_wrong_end _ c.known)
@@ -148,7 +148,7 @@ module _ (d : Datagram) (end : ℕ) (store : Store) (frame : List ℕ) (todo : L
     pub left_so : Written store frame call
     left_so =
         written store frame call (end_with_lem (piece frame) (known_end_lem store.state)) c.sized c.awaited.0.fit
-        (subst (λ (r : Ruling). Effect r frame store.bytes store.bits call.bytes call.bits) rules t.store)
+        (subst (λ (r : Result Ruling Refusal). Effect r frame store.bytes store.bits call.bytes call.bits) rules t.store)
 
     -- a byte whose block is there
     pub byte_kept : (place : ℕ) → bit store.bits (place / 8) ≡ 1 → get_or call.bytes place 0 ≡ get_or store.bytes place 0

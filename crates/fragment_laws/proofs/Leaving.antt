@@ -3,17 +3,16 @@ use Prim.Native.Nat.{ℕ}
 use mathlib.Core.Path.{◌≡◌, refl, sym, subst, ◌∙◌}
 use mathlib.Core.Bool.{Bool, true, false, cond}
 use mathlib.Core.List.{List}
-use native.Mathlib.Omega.{arith}
 use lib.Dec.{eqb}
 use lib.ListN.{length}
+use Rattle.std.specs.Prelude.{Option, Result, Ok, Err}
 use Rattle.bitmap.specs.Bitmap.{bit, count, blocks_of_lem}
 use Rattle.fragments.specs.Answer.{stored, complete, refused, said_for}
 use Rattle.fragments.specs.Promises.{Untouched, Effect, Takes}
 use Rattle.fragments.specs.Outcomes.{Outcome, settled, outcome_of}
 use Rattle.fragment_rules.specs.Rules.{ruling}
 use Rattle.fragment_packets.specs.declared.packet.Datagram.{Datagram}
-use Rattle.fragment_rules.specs.declared.answer.End.{End}
-use Rattle.fragment_rules.specs.declared.answer.End.TheVariants.{Unknown, At}
+use Rattle.fragment_rules.specs.declared.answer.Refusal.{Refusal}
 use Rattle.fragment_rules.specs.declared.answer.State.TheVariants.{Filling, Complete}
 use Rattle.fragment_packets.specs.declared.packet.Fragment.{Fragment}
 use Rattle.fragment_rules.specs.declared.ruling.Ruling.{Ruling}
@@ -27,11 +26,11 @@ pub takes : (store : Store) (frame : List ℕ) (call : Call) → call.asked ≡ 
 takes store frame call e k = (subst (λ (asked : Asked). Promised asked store (after call) call.taken) e k).0
 
 module _ (store : Store) (frame : List ℕ) (call : Call) (asked : call.asked ≡ taking frame) (k : Keeps store call) where
-  abbrev ruled : Ruling
+  abbrev ruled : Result Ruling Refusal
   ruled = ruling store.state frame (length store.bytes) store.bits
 
   -- no other ruling than to store changes anything
-  pub leaves_alone : ((f : Fragment) (end : End) → ruled ≡ Ruling.Write f end → ⊥) → after call ≡ store
+  pub leaves_alone : ((f : Fragment) (end : Option ℕ) → ruled ≡ Ok (Ruling.Write f end) → ⊥) → after call ≡ store
   unfolding outcome_of
   leaves_alone never =
       let t = takes store frame call asked k in
@@ -39,11 +38,11 @@ module _ (store : Store) (frame : List ℕ) (call : Call) (asked : call.asked �
       let state : call.taken.state ≡ store.state = t.next ∙ alone.0 in
       λ i. record { state = state i; bytes = alone.1.kept_bytes i; bits = alone.1.kept_bits i }
     where
-      go : (r : Ruling) → ruled ≡ r → Effect r frame store.bytes store.bits call.bytes call.bits
+      go : (r : Result Ruling Refusal) → ruled ≡ r → Effect r frame store.bytes store.bits call.bytes call.bits
           → ((outcome_of store.state (bit store.bits) r).state ≡ store.state) × Untouched store.bytes store.bits call.bytes call.bits
-      go (Ruling.Refuse answer) e u = (refl, u)
-      go Ruling.Pass e u = (refl, u)
-      go (Ruling.Write f end) e u = absurd (never f end e)
+      go (Err refusal) e u = (refl, u)
+      go (Ok Ruling.Pass) e u = (refl, u)
+      go (Ok (Ruling.Write f end)) e u = absurd (never f end e)
 
   -- a frame that is no fit fragment
   pub passes_by : PassesBy frame → after call ≡ store
@@ -52,12 +51,12 @@ module _ (store : Store) (frame : List ℕ) (call : Call) (asked : call.asked �
   -- "Refusals, .. each leaving the store unchanged"
   pub refusal_leaves : (n : ℕ) → said_for call.taken.answer ≡ refused n → after call ≡ store
   unfolding outcome_of settled
-  refusal_leaves n said = leaves_alone (λ f end e. go f end (sym (subst (λ (r : Ruling). said_for call.taken.answer ≡ (outcome_of store.state (bit store.bits) r).said) e (takes store frame call asked k).answers) ∙ said))
+  refusal_leaves n said = leaves_alone (λ f end e. go f end (sym (subst (λ (r : Result Ruling Refusal). said_for call.taken.answer ≡ (outcome_of store.state (bit store.bits) r).said) e (takes store frame call asked k).answers) ∙ said))
     where
-      told : (t : Bool) (d : Datagram) (end : ℕ) → (cond {A = Outcome} t (record { said = complete; state = Complete d end }) (record { said = stored; state = Filling d (At end) })).said ≡ refused n → ⊥
-      told true d end e = let z : ◌≡◌ {A = ℕ} 0 1 = cc in omega arith
-      told false d end e = let z : ◌≡◌ {A = ℕ} 0 1 = cc in omega arith
+      told : (t : Bool) (d : Datagram) (end : ℕ) → (cond {A = Outcome} t (record { said = complete; state = Complete d end }) (record { said = stored; state = Filling d (Option.Some end) })).said ≡ refused n → ⊥
+      told true d end e = cc
+      told false d end e = cc
 
-      go : (f : Fragment) (end : End) → (outcome_of store.state (bit store.bits) (Ruling.Write f end)).said ≡ refused n → ⊥
-      go f Unknown e = let z : ◌≡◌ {A = ℕ} 0 1 = cc in omega arith
-      go f (At end) e = told (eqb (count _ 0 (blocks_of_lem end)) (blocks_of_lem end)) f.datagram end e
+      go : (f : Fragment) (end : Option ℕ) → (outcome_of store.state (bit store.bits) (Ok (Ruling.Write f end))).said ≡ refused n → ⊥
+      go f Option.None e = cc
+      go f (Option.Some end) e = told (eqb (count _ 0 (blocks_of_lem end)) (blocks_of_lem end)) f.datagram end e

@@ -7,12 +7,14 @@ use native.Mathlib.Nat.{zero-div}
 use native.Mathlib.Omega.{arith}
 use borrow.Author.Tests.{eq-eqb}
 use lib.ListN.{length, get_or, drop, replicate, length-replicate}
+use Rattle.std.specs.Prelude.{Result, Ok}
 use Rattle.bitmap.specs.Bitmap.{bit}
 use Rattle.fragments.specs.Answer.{complete, released, said_for}
 use Rattle.fragments.specs.Handing.{site_of_lem, stored_payload, payload_at_lem, payload_of}
 use Rattle.fragment_rules.specs.Rules.{of_size_lem, is_held, part_ruling, packet_ruling, ruling}
 use Rattle.fragments.specs.Outcomes.{outcome_of}
 use Rattle.fragment_rules.specs.declared.answer.Answer.{Answer}
+use Rattle.fragment_rules.specs.declared.answer.Refusal.{Refusal}
 use Rattle.fragment_packets.specs.declared.packet.Datagram.{Datagram}
 use Rattle.fragment_rules.specs.declared.answer.State.{State}
 use Rattle.fragment_rules.specs.declared.answer.State.TheVariants.{Complete}
@@ -47,9 +49,9 @@ module _ (d : Datagram) (n : ℕ) where
       (now, complete_stands store frames calls held (subst (λ (s : Store). Runs s calls) now.as_it_was r.1) (ap (drop 1) e))
 
 -- the payload that is handed out on complete is the stored one
-pub handed_out : (a : Answer) (s : State) (frame bytes : List ℕ) → said_for a ≡ complete → payload_of a s frame bytes ≡ stored_payload bytes s
+pub handed_out : (a : Result Answer Refusal) (s : State) (frame bytes : List ℕ) → said_for a ≡ complete → payload_of a s frame bytes ≡ stored_payload bytes s
 unfolding said_for site_of_lem payload_at_lem
-handed_out a s frame bytes e = ap (λ (x : Answer). payload_of x s frame bytes) (said_one_to_one a Answer.Complete e)
+handed_out a s frame bytes e = ap (λ (x : Result Answer Refusal). payload_of x s frame bytes) (said_one_to_one a (Ok Answer.Complete) e)
 
 -- a bitmap of zeros
 zeros : (n i : ℕ) → ◌≡◌ {A = ℕ} (get_or (replicate n 0) i 0) 0

@@ -5,15 +5,14 @@ use mathlib.Core.Path.{◌≡◌, ap, ◌∙◌}
 use native.Mathlib.Omega.{arith}
 use lib.ListN.{length, get_or, drop, length-drop}
 use lib.Seq.{get_or-take, get_or-drop, length-take-le}
+use Rattle.std.specs.Prelude.{Option, Ok}
 use Rattle.base.proofs.Lists.{length-put, byte_put, byte_beside}
 use Rattle.base.specs.Bytes.{part}
 use Rattle.bitmap.specs.Bitmap.{bit, having}
 use Rattle.fragment_packets.proofs.Fitting.{Fits, part_fits}
-use Rattle.fragment_packets.specs.Packets.{end_of}
+use Rattle.fragment_packets.specs.Packets.{end_of, first_block, stop_block}
 use Rattle.fragments.proofs.Storing.{marked}
 use Rattle.fragments.specs.Promises.{Effect}
-use Rattle.fragment_rules.specs.Rules.{first_block, stop_block}
-use Rattle.fragment_rules.specs.declared.answer.End.{End}
 use Rattle.fragment_rules.specs.declared.ruling.Ruling.TheVariants as Ruling
 use Rattle.fragment_laws.specs.Calls.{Store, Sized, Call, after}
 use Rattle.fragment_laws.specs.Trains.{piece, Fit, Covers, byte_for}
@@ -28,8 +27,8 @@ pub record Written (store : Store) (frame : List ℕ) (call : Call) : Type 0 whe
   pub covered : (place : ℕ) → Covers place frame → get_or call.bytes place 0 ≡ byte_for place frame
   pub beside : (place : ℕ) → ((piece frame).offset ≤ place → end_of (piece frame) ≤ place) → get_or call.bytes place 0 ≡ get_or store.bytes place 0
 
-pub written : (store : Store) (frame : List ℕ) (call : Call) (end : End) → Sized store → Fit frame
-    → Effect (Ruling.Write (piece frame) end) frame store.bytes store.bits call.bytes call.bits → Written store frame call
+pub written : (store : Store) (frame : List ℕ) (call : Call) (end : Option ℕ) → Sized store → Fit frame
+    → Effect (Ok (Ruling.Write (piece frame) end)) frame store.bytes store.bits call.bytes call.bits → Written store frame call
 written store frame call end sized fit effect =
     record {
       each_bit = λ b. ap (λ (there : ℕ → ℕ). there b) (marked (piece frame) store.bits call.bits fits.short sized.bits_lent effect.1);

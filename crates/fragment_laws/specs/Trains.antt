@@ -2,7 +2,7 @@
 -- datagram that none get 10, don't overlap, cover it from 0 and have exactly one last, which ends furthest, every order of arrival in an
 -- empty store, with no release or other datagram's fragment between, ends complete, and each byte of the payload is the byte of the fragment
 -- that covers its place".
-use Rattle.std.specs.Prelude.{ℕ, ◌+◌, ◌-◌, ◌≤◌, ◌<◌, true, cond, ◌⊎◌, ◌≡◌, List, [], ◌∷◌, length, get_or}
+use Rattle.std.specs.Prelude.{Option, ℕ, ◌+◌, ◌-◌, ◌≤◌, ◌<◌, true, cond, ◌⊎◌, ◌≡◌, List, [], ◌∷◌, length, get_or}
 use Rattle.base.specs.Runs.{each}
 use Rattle.wire.specs.Rfc894.{body}
 use Rattle.fragments.specs.Answer.{stored, complete, refused, said_for}
@@ -41,7 +41,7 @@ piece frame = fragment_of (body frame)
 
 -- a fragment that doesn't get 10 from a store of the right size
 abbrev pub Fit : (frame : List ℕ) → Type 0
-Fit frame = packet_of frame ≡ Part (piece frame)
+Fit frame = packet_of frame ≡ Option.Some (Part (piece frame))
 
 -- the fragment covers a place of the datagram's payload, and has this byte for it
 abbrev pub Covers : (place : ℕ) (frame : List ℕ) → Type 0
@@ -81,7 +81,7 @@ StoredThenComplete (call ∷ next ∷ rest) = (said_for call.taken.answer ≡ st
 
 -- a frame that is no fit fragment, of this or another datagram: it passes or gets 10
 abbrev pub PassesBy : (frame : List ℕ) → Type 0
-PassesBy frame = (f : Fragment) → packet_of frame ≡ Part f → ⊥
+PassesBy frame = (f : Fragment) → packet_of frame ≡ Option.Some (Part f) → ⊥
 
 -- Calls of a train among all calls: between them frames pass by, and there is "no release or other datagram's fragment between".
 pub data Among : (its calls : List Call) → Type 0 where

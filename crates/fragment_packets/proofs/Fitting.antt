@@ -10,19 +10,20 @@ use lib.Dec.{leb, eqb}
 use Rattle.base.proofs.Choice.{by_test, second_arm}
 use Rattle.wire.specs.Rfc791.{version, header_length_lem, total_length, more_fragments_lem, fragment_offset_lem}
 use Rattle.wire.specs.Rfc894.{body, type_of}
+use Rattle.std.specs.Prelude.{Some, None}
 use Rattle.fragment_packets.specs.Packets.{sound_header, sound, is_whole_lem, payload_length, good_length, fragment_of, end_of, packet_of}
 use Rattle.fragment_packets.specs.declared.packet.Fragment.{Fragment}
-use Rattle.fragment_packets.specs.declared.packet.Packet.TheVariants.{Unfit, Whole, Part}
+use Rattle.fragment_packets.specs.declared.packet.Packet.TheVariants.{Whole, Part}
 
 -- a packet of one kind is of no other
-unfit_no_part : {f : Fragment} → Unfit ≡ Part f → ⊥
-unfit_no_part e = let z : ◌≡◌ {A = ℕ} 0 1 = cc in omega arith
+unfit_no_part : {f : Fragment} → None ≡ Some (Part f) → ⊥
+unfit_no_part e = cc
 
-unfit_no_whole : {start n : ℕ} → Unfit ≡ Whole start n → ⊥
-unfit_no_whole e = let z : ◌≡◌ {A = ℕ} 0 1 = cc in omega arith
+unfit_no_whole : {start n : ℕ} → None ≡ Some (Whole start n) → ⊥
+unfit_no_whole e = cc
 
-whole_no_part : {start n : ℕ} {f : Fragment} → Whole start n ≡ Part f → ⊥
-whole_no_part e = let z : ◌≡◌ {A = ℕ} 0 1 = cc in omega arith
+whole_no_part : {start n : ℕ} {f : Fragment} → Some (Whole start n) ≡ Some (Part f) → ⊥
+whole_no_part e = cc
 
 -- the lengths in a sound frame
 pub record Lengths (frame : List ℕ) : Type 0 where
@@ -67,7 +68,7 @@ record Passed (frame : List ℕ) (f : Fragment) : Type 0 where
   good : good_length (more_fragments_lem (body frame)) (payload_length (body frame)) ≡ true
   near : leb (fragment_offset_lem (body frame) + payload_length (body frame)) 65515 ≡ true
 
-passed : (frame : List ℕ) (f : Fragment) → packet_of frame ≡ Part f → Passed frame f
+passed : (frame : List ℕ) (f : Fragment) → packet_of frame ≡ Some (Part f) → Passed frame f
 unfolding packet_of
 passed frame f e =
     let one = second_arm (not (sound frame)) unfit_no_part e in
@@ -77,10 +78,10 @@ passed frame f e =
     record { is = cc; is_sound = not-false _ one.0; good = not-false _ three.0; near = not-false _ four.0 }
 
 -- it is the fragment that its frame holds
-pub part_is : (frame : List ℕ) (f : Fragment) → packet_of frame ≡ Part f → fragment_of (body frame) ≡ f
+pub part_is : (frame : List ℕ) (f : Fragment) → packet_of frame ≡ Some (Part f) → fragment_of (body frame) ≡ f
 part_is frame f e = (passed frame f e).is
 
-pub part_fits : (frame : List ℕ) (f : Fragment) → packet_of frame ≡ Part f → Fits frame f
+pub part_fits : (frame : List ℕ) (f : Fragment) → packet_of frame ≡ Some (Part f) → Fits frame f
 unfolding fragment_of good_length
 part_fits frame f e =
     let tests = passed frame f e in
@@ -93,14 +94,14 @@ part_fits frame f e =
     })
 
 -- one that is not the last ends where a block does
-pub ends_at_block : (frame : List ℕ) (f : Fragment) → packet_of frame ≡ Part f → f.last ≡ false → end_of f % 8 ≡ 0
+pub ends_at_block : (frame : List ℕ) (f : Fragment) → packet_of frame ≡ Some (Part f) → f.last ≡ false → end_of f % 8 ≡ 0
 unfolding fragment_of good_length
 ends_at_block frame f e = let tests = passed frame f e in subst (λ (g : Fragment). g.last ≡ false → end_of g % 8 ≡ 0) tests.is (go (more_fragments_lem (body frame)) tests.good)
   where
     go : (more : Bool) → (not (eqb (payload_length (body frame)) 0) && (not more || eqb (payload_length (body frame) % 8) 0)) ≡ true → not more ≡ false
         → (fragment_offset_lem (body frame) + payload_length (body frame)) % 8 ≡ 0
     go true e m = omega (arith, at_block (body frame), eqb-true (payload_length (body frame) % 8) 0 ((and-eq-true_iff (not (eqb (payload_length (body frame)) 0)) _).0 e).1)
-    go false e m = let z : ◌≡◌ {A = ℕ} 0 1 = cc in absurd (omega arith)
+    go false e m = cc
 
 -- a whole datagram is sound, and its payload stands behind its header
 pub record IsWhole (frame : List ℕ) (start n : ℕ) : Type 0 where
@@ -108,13 +109,13 @@ pub record IsWhole (frame : List ℕ) (start n : ℕ) : Type 0 where
   pub starts : 14 + header_length_lem (body frame) ≡ start
   pub long : payload_length (body frame) ≡ n
 
-pub whole_is : (frame : List ℕ) (start n : ℕ) → packet_of frame ≡ Whole start n → IsWhole frame start n
+pub whole_is : (frame : List ℕ) (start n : ℕ) → packet_of frame ≡ Some (Whole start n) → IsWhole frame start n
 unfolding packet_of
 whole_is frame start n e =
     let one = second_arm (not (sound frame)) unfit_no_whole e in
     by_test (is_whole_lem (body frame))
     (λ whole.
-    let same : Whole (14 + header_length_lem (body frame)) (payload_length (body frame)) ≡ Whole start n = rw whole at one.1 in
+    let same : Some (Whole (14 + header_length_lem (body frame)) (payload_length (body frame))) ≡ Some (Whole start n) = rw whole at one.1 in
     record { is_sound = not-false _ one.0; starts = cc; long = cc })
     (λ part.
     let two = second_arm (not (good_length (more_fragments_lem (body frame)) (payload_length (body frame)))) unfit_no_whole (rw part at one.1) in
@@ -122,5 +123,5 @@ whole_is frame start n e =
     absurd (whole_no_part (sym three.1)))
 
 -- so it lies in its frame too
-pub whole_fits : (frame : List ℕ) (start n : ℕ) → packet_of frame ≡ Whole start n → start + n ≤ length frame
+pub whole_fits : (frame : List ℕ) (start n : ℕ) → packet_of frame ≡ Some (Whole start n) → start + n ≤ length frame
 whole_fits frame start n e = let whole = whole_is frame start n e in omega (arith, whole.starts, whole.long, within_frame frame whole.is_sound)

@@ -1,14 +1,15 @@
 -- What a frame is to reassembly: RFC 791, section 3.2 ("Fragmentation and Reassembly"), as document 02 condenses it (request 4/13). The fields
 -- are RFC 791's own, of `wire`.
-use Rattle.std.specs.Prelude.{ℕ, ◌+◌, ◌-◌, ◌%◌, Bool, ◌&&◌, ◌||◌, not, cond, List, eqb, leb, length, take}
+use Rattle.std.specs.Prelude.{ℕ, ◌+◌, ◌-◌, ◌/◌, ◌%◌, Bool, ◌&&◌, ◌||◌, not, cond, Option, Some, None, List, eqb, leb, length, take}
 use Rattle.sums.specs.Rfc1071.{total, fold}
 use Rattle.base.specs.Bytes.{u32_at}
 use Rattle.wire.specs.Rfc791.{version, header_length_lem, total_length, identification, more_fragments_lem, fragment_offset_lem, protocol_of}
 use Rattle.wire.specs.Rfc894.{body, type_of}
+use Rattle.bitmap.specs.Bitmap.{blocks_of_lem}
 use Rattle.fragment_packets.specs.declared.packet.Datagram.{Datagram}
 use Rattle.fragment_packets.specs.declared.packet.Fragment.{Fragment}
 use Rattle.fragment_packets.specs.declared.packet.Packet.{Packet}
-use Rattle.fragment_packets.specs.declared.packet.Packet.TheVariants.{Unfit, Whole, Part}
+use Rattle.fragment_packets.specs.declared.packet.Packet.TheVariants.{Whole, Part}
 
 -- "Here the IPv4 header has to be sound: version 4, header of 20 or more and within the total length, that within the frame, header sums right."
 unfoldable pub sound_header : (packet : List ℕ) → Bool
@@ -60,11 +61,18 @@ fragment_of packet =
 abbrev pub end_of : Fragment → ℕ
 end_of f = f.offset + f.length
 
--- What a frame is: unfit ("unsound header, bad length or payload past 65,515"), a whole datagram, or a part of one.
-unfoldable pub packet_of : (frame : List ℕ) → Packet
+-- its first block, and the one behind its last
+abbrev pub first_block : Fragment → ℕ
+first_block f = f.offset / 8
+
+abbrev pub stop_block : Fragment → ℕ
+stop_block f = blocks_of_lem (end_of f)
+
+-- What a frame is: None where it is unfit ("unsound header, bad length or payload past 65,515"), else a whole datagram or a part of one.
+unfoldable pub packet_of : (frame : List ℕ) → Option Packet
 packet_of frame =
-    cond (not (sound frame)) Unfit
-    (cond (is_whole_lem (body frame)) (Whole (14 + header_length_lem (body frame)) (payload_length (body frame)))
-    (cond (not (good_length (more_fragments_lem (body frame)) (payload_length (body frame)))) Unfit
-    (cond (not (leb (fragment_offset_lem (body frame) + payload_length (body frame)) 65515)) Unfit
-    (Part (fragment_of (body frame))))))
+    cond (not (sound frame)) None
+    (cond (is_whole_lem (body frame)) (Some (Whole (14 + header_length_lem (body frame)) (payload_length (body frame))))
+    (cond (not (good_length (more_fragments_lem (body frame)) (payload_length (body frame)))) None
+    (cond (not (leb (fragment_offset_lem (body frame) + payload_length (body frame)) 65515)) None
+    (Some (Part (fragment_of (body frame)))))))

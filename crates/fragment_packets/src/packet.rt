@@ -1,7 +1,9 @@
 // What a frame is: RFC 791, sections 3.1 and 3.2, as document 02 condenses them.
-ghost use Rattle.std.specs.Prelude.{◌≡◌};
-ghost use Rattle.fragment_packets.specs.Packets.{sound, sound_header, packet_of, is_whole_lem, good_length, datagram_of_lem};
+ghost use Rattle.std.specs.Prelude.{◌≡◌, ◌≤◌};
+ghost use Rattle.fragment_packets.specs.Packets.{sound, sound_header, packet_of, is_whole_lem, good_length, datagram_of_lem, end_of, first_block, stop_block};
 
+use bitmap::{BLOCK, blocks_of};
+use std::marker::Model;
 use sums::sum;
 use wire::bytes::{byte_at, u16be, u32be};
 use wire::{ethernet, ipv4};
@@ -11,7 +13,7 @@ const VERSION: u8 = 4;
 const SHORTEST_FRAME: usize = ethernet::HEADER + ipv4::HEADER;
 
 // A datagram's name: RFC 791, section 3.2.
-#[derive(Clone, Copy)]
+#[derive(Clone, Copy, PartialEq, Eq)]
 pub struct Datagram {
     pub source: u32,
     pub target: u32,
@@ -20,7 +22,7 @@ pub struct Datagram {
 }
 
 // A fragment: its datagram, where its payload stands in the frame, its place in the datagram's
-// payload, and whether it is the last.
+// payload, and whether it is the last. Its bytes end within the longest payload.
 #[derive(Clone, Copy)]
 pub struct Fragment {
     pub datagram: Datagram,
@@ -30,44 +32,84 @@ pub struct Fragment {
     pub last: bool,
 }
 
+impl Model for Fragment {
+    ghost use Rattle.std.specs.Prelude.{◌+◌, ◌≤◌};
+    ghost use Rattle.fragment_packets.specs.Piece.{Piece};
+
+    ghost Value = { Piece };
+
+    ghost view = { λ f. record { datagram = f.datagram; start = f.start; length = f.length; offset = f.offset; last = f.last } };
+
+    ghost invariant = { λ f. f.offset + f.length ≤ 65515 };
+
+    ghost inverse = { λ p. record { datagram = p.datagram; start = p.start; length = p.length; offset = p.offset; last = p.last } };
+}
+
+impl Fragment {
+    // Where its bytes end in the datagram's payload.
+    pub fn end(self) -> usize
+        ensures place { result ≡ end_of self }
+        ensures short { result ≤ 65515 }
+    {
+        self.offset + self.length
+    }
+
+    // Its first block.
+    pub fn first_block(self) -> usize
+        ensures { result ≡ first_block self }
+    {
+        self.offset / BLOCK
+    }
+
+    // The block behind its last.
+    pub fn stop_block(self) -> usize
+        ensures { result ≡ stop_block self }
+    {
+        blocks_of(self.end() as u32)
+    }
+}
+
+// A frame that is fit: a whole datagram, or a part of one.
 #[derive(Clone, Copy)]
 pub enum Packet {
-    Unfit,
     Whole { start: usize, length: usize },
     Part(Fragment),
 }
 
-pub fn read(frame: &[u8]) -> Packet
+// What the frame is; None where it is unfit.
+#[tactic(auto, unfolding(crate::specs::Packets::packet_of, crate::specs::Packets::payload_length, crate::specs::Packets::fragment_of, crate::specs::Packets::sound, crate::specs::Packets::sound_header))]
+pub fn read(frame: &[u8]) -> Option<Packet>
     ensures { result ≡ packet_of frame.now }
 {
     if !is_sound(frame) {
-        return Packet::Unfit;
+        return None;
     }
     let packet = &frame[ethernet::HEADER..];
     let header = ipv4::header_length(packet, 0);
     let start = ethernet::HEADER + header;
-    let length = (u16be(packet, ipv4::TOTAL_LENGTH) as usize) - header;
+    let length = usize::from(u16be(packet, ipv4::TOTAL_LENGTH)) - header;
     if is_whole(packet) {
-        return Packet::Whole { start, length };
+        return Some(Packet::Whole { start, length });
     }
     let more = ipv4::more_fragments(packet);
     if !is_good_length(more, length) {
-        return Packet::Unfit;
+        return None;
     }
     let offset = ipv4::fragment_offset(packet);
     if ipv4::PAYLOAD_LIMIT < offset + length {
-        return Packet::Unfit;
+        return None;
     }
-    Packet::Part(Fragment {
+    Some(Packet::Part(Fragment {
         datagram: datagram_of(packet),
         start,
         length,
         offset,
         last: !more,
-    })
+    }))
 }
 
 // Whether the frame holds an IPv4 packet with a sound header.
+#[tactic(auto, unfolding(crate::specs::Packets::sound))]
 fn is_sound(frame: &[u8]) -> bool
     ensures { result ≡ sound frame.now }
 {
@@ -80,6 +122,7 @@ fn is_sound(frame: &[u8]) -> bool
     has_sound_header(&frame[ethernet::HEADER..])
 }
 
+#[tactic(auto, unfolding(crate::specs::Packets::sound_header))]
 fn has_sound_header(packet: &[u8]) -> bool
     ensures { result ≡ sound_header packet.now }
 {
@@ -90,7 +133,7 @@ fn has_sound_header(packet: &[u8]) -> bool
     if header < ipv4::HEADER {
         return false;
     }
-    let total = u16be(packet, ipv4::TOTAL_LENGTH) as usize;
+    let total = usize::from(u16be(packet, ipv4::TOTAL_LENGTH));
     if total < header {
         return false;
     }
@@ -100,6 +143,7 @@ fn has_sound_header(packet: &[u8]) -> bool
     sum(0, &packet[..header]) == ipv4::SUMS_RIGHT
 }
 
+#[tactic(auto, unfolding(crate::specs::Packets::is_whole_lem))]
 fn is_whole(packet: &[u8]) -> bool
     ensures { result ≡ is_whole_lem packet.now }
 {
@@ -109,6 +153,7 @@ fn is_whole(packet: &[u8]) -> bool
     ipv4::fragment_offset(packet) == 0
 }
 
+#[tactic(auto, unfolding(crate::specs::Packets::good_length))]
 fn is_good_length(more: bool, length: usize) -> bool
     ensures { result ≡ good_length more length }
 {
@@ -122,6 +167,7 @@ fn is_good_length(more: bool, length: usize) -> bool
 }
 
 // The name of the datagram that the packet belongs to.
+#[tactic(auto, unfolding(crate::specs::Packets::datagram_of_lem))]
 fn datagram_of(packet: &[u8]) -> Datagram
     ensures { result ≡ datagram_of_lem packet.now }
 {

@@ -6,6 +6,6 @@
 mod answer;
 mod ruling;
 
-pub use answer::{Answer, End, State};
+pub use answer::{Answer, Refusal, State};
 pub use fragment_packets::Datagram;
 pub use ruling::{Ruling, is_of_size, rule};

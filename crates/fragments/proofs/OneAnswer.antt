@@ -9,41 +9,42 @@ use Rattle.bitmap.specs.Bitmap.{bit}
 use Rattle.fragments.specs.Answer.{Said, passed, stored, complete, released, refused, said_for}
 use Rattle.fragments.specs.Promises.{Effect, Does, Releases}
 use Rattle.fragment_rules.specs.declared.answer.Answer.{Answer}
-use Rattle.fragment_rules.specs.declared.answer.Answer.TheVariants.{Passed, Stored, Complete, Released, Unfit, Held, Overlap, WrongEnd}
+use Rattle.fragment_rules.specs.declared.answer.Refusal.{Refusal}
+use Rattle.std.specs.Prelude.{Result, Ok, Err}
 use Rattle.fragment_rules.specs.declared.answer.State.{State}
 use Rattle.fragments.specs.declared.answer.Taken.{Taken}
 use Rattle.fragment_rules.specs.declared.ruling.Ruling.{Ruling}
-use Rattle.fragment_rules.specs.declared.ruling.Ruling.TheVariants.{Refuse, Pass, Write}
+use Rattle.fragment_rules.specs.declared.ruling.Ruling.TheVariants.{Pass, Write}
 
 -- the answer that the document says so
-answer_of : Said → Answer
-answer_of passed = Passed
-answer_of stored = Stored
-answer_of complete = Complete
-answer_of released = Released
-answer_of (refused n) = cond (eqb n 10) Unfit (cond (eqb n 11) Held (cond (eqb n 12) Overlap WrongEnd))
+answer_of : Said → Result Answer Refusal
+answer_of passed = Ok Answer.Passed
+answer_of stored = Ok Answer.Stored
+answer_of complete = Ok Answer.Complete
+answer_of released = Ok Answer.Released
+answer_of (refused n) = Err (cond (eqb n 10) Refusal.Unfit (cond (eqb n 11) Refusal.Held (cond (eqb n 12) Refusal.Overlap Refusal.WrongEnd)))
 
 -- it gives the answer back
-answer_back : (a : Answer) → answer_of (said_for a) ≡ a
+answer_back : (a : Result Answer Refusal) → answer_of (said_for a) ≡ a
 unfolding said_for answer_of
-answer_back Passed = refl
-answer_back Stored = refl
-answer_back Complete = refl
-answer_back Released = refl
-answer_back Unfit = refl
-answer_back Held = refl
-answer_back Overlap = refl
-answer_back WrongEnd = refl
+answer_back (Ok Answer.Passed) = refl
+answer_back (Ok Answer.Stored) = refl
+answer_back (Ok Answer.Complete) = refl
+answer_back (Ok Answer.Released) = refl
+answer_back (Err Refusal.Unfit) = refl
+answer_back (Err Refusal.Held) = refl
+answer_back (Err Refusal.Overlap) = refl
+answer_back (Err Refusal.WrongEnd) = refl
 
 -- different answers are said differently
-pub said_one_to_one : (a b : Answer) → said_for a ≡ said_for b → a ≡ b
+pub said_one_to_one : (a b : Result Answer Refusal) → said_for a ≡ said_for b → a ≡ b
 said_one_to_one a b e = sym (answer_back a) ∙ ap answer_of e ∙ answer_back b
 
 -- so the same said and the same state are one answer
 same_taken : (t u : Taken) → said_for t.answer ≡ said_for u.answer → t.state ≡ u.state → t ≡ u
 same_taken t u said state = let answer = said_one_to_one t.answer u.answer said in λ i. record { answer = answer i; state = state i }
 
-pub one_taken : {r : Ruling} {state : State} {frame bytes bits bytes₁ bits₁ bytes₂ bits₂ : List ℕ} {t u : Taken}
+pub one_taken : {r : Result Ruling Refusal} {state : State} {frame bytes bits bytes₁ bits₁ bytes₂ bits₂ : List ℕ} {t u : Taken}
     → Does r state frame bytes bits bytes₁ bits₁ t → Does r state frame bytes bits bytes₂ bits₂ u → t ≡ u
 one_taken d e = same_taken _ _ (d.answers ∙ sym e.answers) (d.next ∙ sym e.next)
 
@@ -51,16 +52,16 @@ pub one_released : {state : State} {bytes bits bits₁ bits₂ : List ℕ} {t u 
 one_released r s = same_taken _ _ (r.answers ∙ sym s.answers) (r.next ∙ sym s.next)
 
 -- and what a ruling does to a store is one thing
-pub one_effect : (r : Ruling) (frame bytes bits bytes₁ bits₁ bytes₂ bits₂ : List ℕ) → Effect r frame bytes bits bytes₁ bits₁ → Effect r frame bytes bits bytes₂ bits₂
+pub one_effect : (r : Result Ruling Refusal) (frame bytes bits bytes₁ bits₁ bytes₂ bits₂ : List ℕ) → Effect r frame bytes bits bytes₁ bits₁ → Effect r frame bytes bits bytes₂ bits₂
     → (bytes₁ ≡ bytes₂) × ((b : ℕ) → bit bits₁ b ≡ bit bits₂ b)
-one_effect (Refuse a) frame bytes bits bytes₁ bits₁ bytes₂ bits₂ e f =
+one_effect (Err a) frame bytes bits bytes₁ bits₁ bytes₂ bits₂ e f =
     (e.kept_bytes ∙ sym f.kept_bytes, λ b. ap (λ (w : List ℕ). bit w b) (e.kept_bits ∙ sym f.kept_bits))
-one_effect Pass frame bytes bits bytes₁ bits₁ bytes₂ bits₂ e f =
+one_effect (Ok Pass) frame bytes bits bytes₁ bits₁ bytes₂ bits₂ e f =
     (e.kept_bytes ∙ sym f.kept_bytes, λ b. ap (λ (w : List ℕ). bit w b) (e.kept_bits ∙ sym f.kept_bits))
-one_effect (Write p end) frame bytes bits bytes₁ bits₁ bytes₂ bits₂ e f = (e.0 ∙ sym f.0, λ b. e.1.bits b ∙ sym (f.1.bits b))
+one_effect (Ok (Write p end)) frame bytes bits bytes₁ bits₁ bytes₂ bits₂ e f = (e.0 ∙ sym f.0, λ b. e.1.bits b ∙ sym (f.1.bits b))
 
 -- its bitmap stays as long
-pub as_many_bits : (r : Ruling) (frame bytes bits bytes' bits' : List ℕ) → Effect r frame bytes bits bytes' bits' → length bits' ≡ length bits
-as_many_bits (Refuse a) frame bytes bits bytes' bits' e = ap length e.kept_bits
-as_many_bits Pass frame bytes bits bytes' bits' e = ap length e.kept_bits
-as_many_bits (Write p end) frame bytes bits bytes' bits' e = e.1.as_long
+pub as_many_bits : (r : Result Ruling Refusal) (frame bytes bits bytes' bits' : List ℕ) → Effect r frame bytes bits bytes' bits' → length bits' ≡ length bits
+as_many_bits (Err a) frame bytes bits bytes' bits' e = ap length e.kept_bits
+as_many_bits (Ok Pass) frame bytes bits bytes' bits' e = ap length e.kept_bits
+as_many_bits (Ok (Write p end)) frame bytes bits bytes' bits' e = e.1.as_long

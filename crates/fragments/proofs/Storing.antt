@@ -11,8 +11,8 @@ use lib.Seq.{length-take-le}
 use Rattle.bitmap.specs.Bitmap.{bit, having, Marked, blocks_of_lem}
 use Rattle.base.specs.Bytes.{part}
 use Rattle.base.specs.Buffer.{put, put_if_fits}
-use Rattle.fragment_rules.specs.Rules.{of_size_lem, first_block, stop_block}
-use Rattle.fragment_packets.specs.Packets.{end_of}
+use Rattle.fragment_rules.specs.Rules.{of_size_lem}
+use Rattle.fragment_packets.specs.Packets.{end_of, first_block, stop_block}
 use Rattle.fragment_packets.specs.declared.packet.Fragment.{Fragment}
 
 -- a store of the right size

@@ -11,6 +11,6 @@ mod store;
 
 pub use answer::{Site, Taken};
 pub use fragment_packets::Datagram;
-pub use fragment_rules::{Answer, End, State};
+pub use fragment_rules::{Answer, Refusal, State};
 pub use handing::{payload, site_of, stored_length};
 pub use store::{release, take};

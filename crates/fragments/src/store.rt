@@ -1,97 +1,99 @@
 // The calls that change a store: a frame is taken, the store released.
-ghost use Rattle.std.specs.Prelude.{◌≡◌, ◌+◌, ◌≤◌, length};
-ghost use Rattle.bitmap.specs.Bitmap.{bit, having};
-ghost use Rattle.fragment_rules.specs.Rules.{first_block, stop_block};
-ghost use Rattle.fragment_packets.specs.Packets.{end_of};
+ghost use Rattle.std.specs.Prelude.{◌≡◌, ◌+◌, ◌≤◌, ◌==◌, length, Ok};
+ghost use Rattle.bitmap.specs.Bitmap.{bit, blocks_of_lem, count, having};
+ghost use Rattle.fragment_packets.specs.Packets.{first_block, stop_block};
 ghost use Rattle.fragments.specs.helpers.Settling.{Settles};
 ghost use Rattle.fragments.specs.Promises.{Takes, Effect, Releases};
 
 use crate::answer::Taken;
 use base::put;
-use bitmap::{BLOCK, blocks_of};
+use bitmap::blocks_of;
 use fragment_packets::{Datagram, Fragment};
-use fragment_rules::{Answer, End, Ruling, State, is_of_size, rule};
+use fragment_rules::{Answer, Refusal, Ruling, State, is_of_size, rule};
 
 // Takes a guest's frame into its store.
+#[tactic(auto, using(crate::proofs::Ruled::stored, fragment_packets::proofs::Fitting::part_fits, crate::proofs::Storing::of_size), unfolding(crate::specs::Answer::said_for, crate::specs::Outcomes::outcome_of))]
 pub fn take(state: State, frame: &[u8], bytes: &mut [u8], bits: &mut [u64]) -> Taken
     ensures { Takes state frame.now bytes.old bits.old bytes.new bits.new result }
 {
-    let ruling = rule(state, frame, bytes.len(), bits);
-    match ruling {
-        Ruling::Refuse(answer) => Taken { answer, state },
-        Ruling::Pass => Taken {
-            answer: Answer::Passed,
+    match rule(state, frame, bytes.len(), bits) {
+        Err(refusal) => Taken {
+            answer: Err(refusal),
             state,
         },
-        Ruling::Write(fragment, end) => write(fragment, end, frame, bytes, bits),
+        Ok(ruling) => match ruling {
+            Ruling::Pass => Taken {
+                answer: Ok(Answer::Passed),
+                state,
+            },
+            Ruling::Write(fragment, end) => write(fragment, end, frame, bytes, bits),
+        },
     }
 }
 
 // The fragment's payload is copied to its place, and its blocks are marked.
-fn write(fragment: Fragment, end: End, frame: &[u8], bytes: &mut [u8], bits: &mut [u64]) -> Taken
+#[tactic(auto, using(crate::proofs::Storing::copied, crate::proofs::Storing::marked))]
+fn write(
+    fragment: Fragment,
+    end: Option<u16>,
+    frame: &[u8],
+    bytes: &mut [u8],
+    bits: &mut [u64],
+) -> Taken
     requires in_frame { fragment.start + fragment.length ≤ length frame.now }
-    requires short { end_of fragment ≤ 65515 }
     requires of_size { (length bytes.old ≡ 65515) × (length bits.old ≡ 128) }
     ensures settles { Settles fragment.datagram end (having (bit bits.old) (first_block fragment) (stop_block fragment)) result }
-    ensures effect { Effect (Ruling.Write fragment end) frame.now bytes.old bits.old bytes.new bits.new }
+    ensures effect { Effect (Ok (Ruling.Write fragment end)) frame.now bytes.old bits.old bytes.new bits.new }
 {
     let start = fragment.start;
-    let stop = start + fragment.length;
-    put(bytes, fragment.offset, &frame[start..stop]);
-    let first = fragment.offset / BLOCK;
-    bitmap::mark(
-        bits,
-        first,
-        blocks_of((fragment.offset + fragment.length) as u32),
+    put(
+        bytes,
+        fragment.offset,
+        &frame[start..start + fragment.length],
     );
+    bitmap::mark(bits, fragment.first_block(), fragment.stop_block());
     settle(fragment.datagram, end, bits)
 }
 
 // Complete when the end is known and no block before it is missing.
-fn settle(datagram: Datagram, end: End, bits: &[u64]) -> Taken
+#[tactic(auto, unfolding(crate::specs::Answer::said_for, crate::specs::Outcomes::settled))]
+fn settle(datagram: Datagram, end: Option<u16>, bits: &[u64]) -> Taken
     ensures { Settles datagram end (bit bits.now) result }
 {
     match end {
-        End::At(known) => {
-            let blocks = blocks_of(known as u32);
-            if bitmap::count(bits, 0, blocks) == blocks {
-                return Taken {
-                    answer: Answer::Complete,
-                    state: State::Complete {
-                        datagram,
-                        length: known,
-                    },
-                };
-            }
-            filling(datagram, end)
-        }
-        End::Unknown => filling(datagram, end),
+        Some(length) if has_all(bits, length) => Taken {
+            answer: Ok(Answer::Complete),
+            state: State::Complete { datagram, length },
+        },
+        _ => Taken {
+            answer: Ok(Answer::Stored),
+            state: State::Filling { datagram, end },
+        },
     }
 }
 
-// More is to come.
-fn filling(datagram: Datagram, end: End) -> Taken
-    ensures { result ≡ record { answer = Answer.Stored; state = State.Filling datagram end } }
+// Whether each block of the first `length` bytes is there.
+fn has_all(bits: &[u64], length: u16) -> bool
+    ensures { result ≡ (count (bit bits.now) 0 (blocks_of_lem length) == blocks_of_lem length) }
 {
-    Taken {
-        answer: Answer::Stored,
-        state: State::Filling { datagram, end },
-    }
+    let blocks = blocks_of(u32::from(length));
+    bitmap::count(bits, 0, blocks) == blocks
 }
 
 // Empties the store.
+#[tactic(auto, using(crate::proofs::Storing::of_size), unfolding(crate::specs::Answer::said_for))]
 pub fn release(state: State, bytes: &[u8], bits: &mut [u64]) -> Taken
     ensures { Releases state bytes.now bits.old bits.new result }
 {
     if !is_of_size(bytes.len(), bits.len()) {
         return Taken {
-            answer: Answer::Unfit,
+            answer: Err(Refusal::Unfit),
             state,
         };
     }
     bitmap::clear(bits);
     Taken {
-        answer: Answer::Released,
+        answer: Ok(Answer::Released),
         state: State::Empty,
     }
 }

@@ -4,7 +4,7 @@ use mathlib.Core.List.{[], ◌∷◌}
 use mathlib.Core.Path.{◌≡◌, refl, ap}
 use native.Mathlib.Omega.{arith}
 use Rattle.fragment_packets.specs.declared.packet.Datagram.{Datagram}
-use Rattle.fragment_rules.specs.declared.answer.End.TheVariants.{Unknown, At}
+use Rattle.std.specs.Prelude.{Some, None}
 use Rattle.fragment_rules.specs.declared.answer.State.{State}
 use Rattle.fragment_rules.specs.declared.answer.State.TheVariants.{Empty, Filling, Complete}
 use Rattle.store_words.specs.Words.{datagram_in, end_in, state_of, laid, filling_words, words_of}
@@ -26,13 +26,13 @@ empty_back : state_of (0 ∷ 0 ∷ 0 ∷ 0 ∷ 0 ∷ 0 ∷ []) ≡ Empty
 unfolding state_of
 empty_back = refl
 
-unknown_back : (d : Datagram) → NameInRange d → state_of (laid 1 d 0) ≡ Filling d Unknown
+unknown_back : (d : Datagram) → NameInRange d → state_of (laid 1 d 0) ≡ Filling d None
 unfolding state_of laid
-unknown_back d fit = ap (λ (x : Datagram). Filling x Unknown) (name_back 1 d 0 fit)
+unknown_back d fit = ap (λ (x : Datagram). Filling x None) (name_back 1 d 0 fit)
 
-known_back : (d : Datagram) (end : ℕ) → NameInRange d → end < 65536 → state_of (laid 2 d end) ≡ Filling d (At end)
+known_back : (d : Datagram) (end : ℕ) → NameInRange d → end < 65536 → state_of (laid 2 d end) ≡ Filling d (Some end)
 unfolding state_of laid
-known_back d end fit small = λ k. Filling (name_back 2 d end fit k) (At (end_back 2 d end small k))
+known_back d end fit small = λ k. Filling (name_back 2 d end fit k) (Some (end_back 2 d end small k))
 
 complete_back : (d : Datagram) (end : ℕ) → NameInRange d → end < 65536 → state_of (laid 3 d end) ≡ Complete d end
 unfolding state_of laid
@@ -42,6 +42,6 @@ complete_back d end fit small = λ k. Complete (name_back 3 d end fit k) (end_ba
 pub state_back : (s : State) → InRange s → state_of (words_of s) ≡ s
 unfolding words_of filling_words
 state_back Empty fit = empty_back
-state_back (Filling d Unknown) fit = unknown_back d fit.0
-state_back (Filling d (At end)) fit = known_back d end fit.0 fit.1
+state_back (Filling d None) fit = unknown_back d fit.0
+state_back (Filling d (Some end)) fit = known_back d end fit.0 fit.1
 state_back (Complete d length) fit = complete_back d length fit.0 fit.1

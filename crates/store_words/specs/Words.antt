@@ -1,8 +1,6 @@
 -- A store's state as six words, for a host that has no enums: phase, source, target, protocol, id, end. Every value of the words is a state.
-use Rattle.std.specs.Prelude.{ℕ, ◌%◌, List, [], ◌∷◌, eqb, get_or, cond}
+use Rattle.std.specs.Prelude.{ℕ, ◌%◌, List, [], ◌∷◌, eqb, get_or, cond, Option, Some, None}
 use Rattle.fragment_packets.specs.declared.packet.Datagram.{Datagram}
-use Rattle.fragment_rules.specs.declared.answer.End.{End}
-use Rattle.fragment_rules.specs.declared.answer.End.TheVariants.{Unknown, At}
 use Rattle.fragment_rules.specs.declared.answer.State.{State}
 use Rattle.fragment_rules.specs.declared.answer.State.TheVariants.{Empty, Filling, Complete}
 
@@ -23,17 +21,17 @@ end_in words = get_or words 5 0 % 65536
 unfoldable pub state_of : (words : List ℕ) → State
 state_of words =
     cond (eqb (get_or words 0 0) 0) Empty
-    (cond (eqb (get_or words 0 0) 1) (Filling (datagram_in words) Unknown)
-    (cond (eqb (get_or words 0 0) 2) (Filling (datagram_in words) (At (end_in words)))
+    (cond (eqb (get_or words 0 0) 1) (Filling (datagram_in words) None)
+    (cond (eqb (get_or words 0 0) 2) (Filling (datagram_in words) (Some (end_in words)))
     (Complete (datagram_in words) (end_in words))))
 
 -- the words of a phase, a datagram and an end
 unfoldable pub laid : (phase : ℕ) → Datagram → (end : ℕ) → List ℕ
 laid phase d end = phase ∷ d.source ∷ d.target ∷ d.protocol ∷ d.id ∷ end ∷ []
 
-unfoldable pub filling_words : Datagram → End → List ℕ
-filling_words d Unknown = laid 1 d 0
-filling_words d (At end) = laid 2 d end
+unfoldable pub filling_words : Datagram → Option ℕ → List ℕ
+filling_words d None = laid 1 d 0
+filling_words d (Some end) = laid 2 d end
 
 -- the words that a call writes for a state; what a state doesn't have is 0
 unfoldable pub words_of : State → List ℕ

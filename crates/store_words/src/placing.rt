@@ -12,27 +12,24 @@ use wire::{ethernet, ipv4};
 const TOTAL_LENGTH: usize = ethernet::HEADER + ipv4::TOTAL_LENGTH;
 
 // The start and the length, in `frame` on passed and in the `lent` bytes of the store on complete.
+#[tactic(auto, unfolding(crate::specs::Reports::place_at))]
 pub fn place(taken: Taken, frame: &[u8], lent: usize) -> [usize; 2]
     ensures { result ≡ place_of taken.answer taken.state frame.now lent }
 {
-    let answer = taken.answer;
-    let state = taken.state;
-    let site = site_of(answer);
-    match site {
-        Site::Frame => in_frame(frame),
-        Site::Store => [0, stored_length(state, lent)],
-        Site::Nowhere => [0, 0],
+    match site_of(taken.answer) {
+        Some(Site::Frame) => in_frame(frame),
+        Some(Site::Store) => [0, stored_length(taken.state, lent)],
+        None => [0, 0],
     }
 }
 
+// A total length below the header's leaves nothing.
+#[tactic(auto, unfolding(fragment_packets::specs::Packets::payload_length))]
 fn in_frame(frame: &[u8]) -> [usize; 2]
     ensures { result ≡ (14 + header_length_lem (body frame.now)) ∷ payload_length (body frame.now) ∷ [] }
 {
     let header = ipv4::ip_hlen(frame);
-    let total = u16be(frame, TOTAL_LENGTH) as usize;
     let start = ethernet::HEADER + header;
-    if total < header {
-        return [start, 0];
-    }
-    [start, total - header]
+    let total = usize::from(u16be(frame, TOTAL_LENGTH));
+    [start, total.saturating_sub(header)]
 }

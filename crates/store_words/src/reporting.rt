@@ -4,22 +4,22 @@ ghost use Rattle.store_words.specs.Reports.{Reports};
 ghost use Rattle.store_words.specs.Words.{state_of, words_of};
 
 use crate::words::words_of;
-use fragments::{Answer, State, Taken};
+use fragments::{Answer, Refusal, State, Taken};
 
+#[tactic(auto, unfolding(fragments::specs::Answer::said_for, crate::specs::Reports::number_of, crate::specs::Reports::changes))]
 pub fn report(taken: Taken, words: &mut [u32; 6]) -> u32
     ensures { Reports words.old words.new taken result }
 {
-    let answer = taken.answer;
     let state = taken.state;
-    match answer {
-        Answer::Passed => 20,
-        Answer::Stored => keep(21, state, words),
-        Answer::Complete => keep(22, state, words),
-        Answer::Released => keep(23, state, words),
-        Answer::Unfit => 10,
-        Answer::Held => 11,
-        Answer::Overlap => 12,
-        Answer::WrongEnd => 13,
+    match taken.answer {
+        Ok(Answer::Passed) => 20,
+        Ok(Answer::Stored) => keep(21, state, words),
+        Ok(Answer::Complete) => keep(22, state, words),
+        Ok(Answer::Released) => keep(23, state, words),
+        Err(Refusal::Unfit) => 10,
+        Err(Refusal::Held) => 11,
+        Err(Refusal::Overlap) => 12,
+        Err(Refusal::WrongEnd) => 13,
     }
 }
 

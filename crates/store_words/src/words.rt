@@ -1,9 +1,9 @@
 // A state in six words, there and back.
 ghost use Rattle.std.specs.Prelude.{◌≡◌, ◌<◌};
-ghost use Rattle.store_words.specs.Words.{state_of, words_of, filling_words, laid};
-ghost use Rattle.store_words.specs.helpers.Range.{NameInRange, EndInRange};
+ghost use Rattle.store_words.specs.Words.{state_of, words_of, laid};
+ghost use Rattle.store_words.specs.helpers.Range.{NameInRange};
 
-use fragments::{Datagram, End, State};
+use fragments::{Datagram, State};
 
 const EMPTY: u32 = 0;
 
@@ -13,10 +13,10 @@ const END_KNOWN: u32 = 2;
 
 const COMPLETE: u32 = 3;
 
+#[tactic(auto, unfolding(crate::specs::Words::state_of, crate::specs::Words::datagram_in, crate::specs::Words::end_in))]
 pub fn state_of(words: [u32; 6]) -> State
     ensures { result ≡ state_of words }
 {
-    let phase = words[0];
     let datagram = Datagram {
         source: words[1],
         target: words[2],
@@ -24,47 +24,39 @@ pub fn state_of(words: [u32; 6]) -> State
         id: (words[4] % 65536) as u16,
     };
     let end = (words[5] % 65536) as u16;
-    if phase == EMPTY {
-        return State::Empty;
-    }
-    if phase == FILLING {
-        return State::Filling {
+    match words[0] {
+        EMPTY => State::Empty,
+        FILLING => State::Filling {
             datagram,
-            end: End::Unknown,
-        };
-    }
-    if phase == END_KNOWN {
-        return State::Filling {
+            end: None,
+        },
+        END_KNOWN => State::Filling {
             datagram,
-            end: End::At(end),
-        };
-    }
-    State::Complete {
-        datagram,
-        length: end,
+            end: Some(end),
+        },
+        _ => State::Complete {
+            datagram,
+            length: end,
+        },
     }
 }
 
 // Read again, the words are the state.
+
 pub fn words_of(state: State) -> [u32; 6]
     ensures { (result ≡ words_of state) × (state_of result ≡ state) }
 {
     match state {
         State::Empty => [0; 6],
-        State::Filling { datagram, end } => filling(datagram, end),
+        State::Filling { datagram, end } => match end {
+            None => lay(FILLING, datagram, 0),
+            Some(known) => lay(END_KNOWN, datagram, known),
+        },
         State::Complete { datagram, length } => lay(COMPLETE, datagram, length),
     }
 }
 
-fn filling(datagram: Datagram, end: End) -> [u32; 6]
-    ensures { (result ≡ filling_words datagram end) × NameInRange datagram × EndInRange end }
-{
-    match end {
-        End::Unknown => lay(FILLING, datagram, 0),
-        End::At(known) => lay(END_KNOWN, datagram, known),
-    }
-}
-
+#[tactic(auto, unfolding(crate::specs::Words::laid))]
 fn lay(phase: u32, datagram: Datagram, end: u16) -> [u32; 6]
     ensures { (result ≡ laid phase datagram end) × NameInRange datagram × (end < 65536) }
 {
@@ -72,8 +64,8 @@ fn lay(phase: u32, datagram: Datagram, end: u16) -> [u32; 6]
         phase,
         datagram.source,
         datagram.target,
-        datagram.protocol as u32,
-        datagram.id as u32,
-        end as u32,
+        u32::from(datagram.protocol),
+        u32::from(datagram.id),
+        u32::from(end),
     ]
 }

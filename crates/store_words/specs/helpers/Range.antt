@@ -1,8 +1,6 @@
 -- No reader has to believe this: that numbers are in the range of their types, from which it is proved that the words of a state are read as it.
-use Rattle.std.specs.Prelude.{◌<◌}
+use Rattle.std.specs.Prelude.{ℕ, ◌<◌, Option, Some, None}
 use Rattle.fragment_packets.specs.declared.packet.Datagram.{Datagram}
-use Rattle.fragment_rules.specs.declared.answer.End.{End}
-use Rattle.fragment_rules.specs.declared.answer.End.TheVariants.{Unknown, At}
 use Rattle.fragment_rules.specs.declared.answer.State.{State}
 use Rattle.fragment_rules.specs.declared.answer.State.TheVariants.{Empty, Filling, Complete}
 
@@ -10,9 +8,9 @@ use Rattle.fragment_rules.specs.declared.answer.State.TheVariants.{Empty, Fillin
 abbrev pub NameInRange : Datagram → Type 0
 NameInRange d = (d.protocol < 256) × (d.id < 65536)
 
-abbrev pub EndInRange : End → Type 0
-EndInRange Unknown = Unit
-EndInRange (At end) = end < 65536
+abbrev pub EndInRange : Option ℕ → Type 0
+EndInRange None = Unit
+EndInRange (Some end) = end < 65536
 
 -- and those of a state
 abbrev pub InRange : State → Type 0
