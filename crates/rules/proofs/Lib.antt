@@ -1,5 +1,4 @@
 pub mod Same
-pub mod Ping
 pub mod Datagram
 pub mod Says
 pub mod Room

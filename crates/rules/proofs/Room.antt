@@ -23,8 +23,11 @@ use Rattle.rules.specs.Rules.{decision, outcome, outcome_of}
 use Rattle.record.specs.Answer.{framing}
 use Rattle.record.specs.Guest.{noting}
 use Rattle.rules.specs.Seen.{EchoAsked}
+use Rattle.std.specs.Prelude.{Result, Ok, Err}
+use Rattle.record.specs.declared.answer.Refusal.{Refusal}
+use Rattle.record.specs.declared.answer.Refusal.TheVariants.{NoRoom, TooLong, CutType}
 use Rattle.rules.specs.declared.decision.Decision.{Decision}
-use Rattle.rules.specs.declared.decision.Decision.TheVariants.{Drop, DropNoting, ArpReply, EchoReply, DhcpReply, Dns, Relay, Tcp, TooLong, CutType}
+use Rattle.rules.specs.declared.decision.Decision.TheVariants.{Drop, DropNoting, ArpReply, EchoReply, DhcpReply, Dns, Relay, Tcp}
 
 -- A ping has a stated header of 4 bytes or more: with none, the byte that says so would be the one that says that it is a request, 8.
 stated : (net : Network) (frame : List ℕ) → EchoAsked net frame → 4 ≤ header_length_lem (body frame)
@@ -41,10 +44,10 @@ module _ (guest : Guest) (frame : List ℕ) (room : ℕ) where
   net = guest.network
 
   -- the number that the answer has, and the first of its values
-  number : Decision → ℕ
+  number : Result Decision Refusal → ℕ
   number d = get_or (outcome_of guest frame room d).writing.numbers 0 0
 
-  value : Decision → ℕ
+  value : Result Decision Refusal → ℕ
   value d = get_or (outcome_of guest frame room d).writing.numbers 1 0
 
   framing_fits : (after : Guest) (need : ℕ) (image : List ℕ) → need ≤ room → get_or (framing guest after need room image).writing.numbers 0 0 ≡ 5 → ⊥
@@ -68,7 +71,7 @@ module _ (guest : Guest) (frame : List ℕ) (room : ℕ) where
       go false = refl
 
   -- a ping's reply, in bytes
-  echo_needs : (start : ℕ) → Says net frame (EchoReply start) → (34 + length (drop start frame) ≤ 65549) × (34 + length (drop start frame) ≤ length frame + 16)
+  echo_needs : (start : ℕ) → Says net frame (Ok (EchoReply start)) → (34 + length (drop start frame) ≤ 65549) × (34 + length (drop start frame) ≤ length frame + 16)
   unfolding Says
   echo_needs start s =
       let most = subst (λ (n : ℕ). length (drop n frame) ≤ 65515) (sym s.1) s.2 in
@@ -79,36 +82,38 @@ module _ (guest : Guest) (frame : List ℕ) (room : ℕ) where
   fits need (for_this a b) all (inl h) = omega (arith, a, h)
   fits need (for_this a b) all (inr h) = omega (arith, b, h)
 
-  no_five : (d : Decision) → Says net frame d → Ample frame room → number d ≡ 5 → ⊥
-  unfolding number outcome_of
-  no_five Drop s ample e = omega (arith, e)
-  no_five (DropNoting xid) s ample e = omega (arith, e)
-  no_five ArpReply s ample e = framing_fits _ 42 _ (fits 42 ample (omega arith) (inl (omega arith))) e
-  no_five (EchoReply start) s ample e = framing_fits _ _ _ (fits _ ample (echo_needs start s).0 (inr (echo_needs start s).1)) e
-  no_five (DhcpReply xid type) s ample e = framing_fits _ 342 _ (fits 342 ample (omega arith) (inl (omega arith))) e
-  no_five (Dns start len) s ample e = omega (arith, e)
-  no_five (Relay start len) s ample e = omega (arith, e)
-  no_five (Tcp len) s ample e = omega (arith, e)
-  no_five (TooLong len) s ample e = omega (arith, e)
-  no_five (CutType place) s ample e = omega (arith, e)
+  no_five : (d : Result Decision Refusal) → Says net frame d → Ample frame room → number d ≡ 5 → ⊥
+  unfolding Says number outcome_of
+  no_five (Ok Drop) s ample e = omega (arith, e)
+  no_five (Ok (DropNoting xid)) s ample e = omega (arith, e)
+  no_five (Ok ArpReply) s ample e = framing_fits _ 42 _ (fits 42 ample (omega arith) (inl (omega arith))) e
+  no_five (Ok (EchoReply start)) s ample e = framing_fits _ _ _ (fits _ ample (echo_needs start s).0 (inr (echo_needs start s).1)) e
+  no_five (Ok (DhcpReply xid type)) s ample e = framing_fits _ 342 _ (fits 342 ample (omega arith) (inl (omega arith))) e
+  no_five (Ok (Dns start len)) s ample e = omega (arith, e)
+  no_five (Ok (Relay start len)) s ample e = omega (arith, e)
+  no_five (Ok (Tcp len)) s ample e = omega (arith, e)
+  no_five (Err (NoRoom needed)) s ample e = absurd s
+  no_five (Err (TooLong len)) s ample e = omega (arith, e)
+  no_five (Err (CutType place)) s ample e = omega (arith, e)
 
   -- with ample room 5 is never to come
   pub never_five : Ample frame room → get_or (outcome guest frame room).writing.numbers 0 0 ≡ 5 → ⊥
   unfolding outcome number
   never_five = no_five (decision net frame) (says net frame)
 
-  no_longer : (d : Decision) → Says net frame d → number d ≡ 1 → value d ≤ 65549
-  unfolding number value outcome_of
-  no_longer Drop s e = omega arith
-  no_longer (DropNoting xid) s e = omega arith
-  no_longer ArpReply s e = omega (arith, framing_tells guest 42 (arp_reply_lem net frame))
-  no_longer (EchoReply start) s e = omega (arith, framing_tells (spent guest) (34 + length (drop start frame)) (echo_frame guest frame start), (echo_needs start s).0)
-  no_longer (DhcpReply xid type) s e = omega (arith, framing_tells (spent (noting xid guest)) 342 (dhcp_frame guest frame xid type))
-  no_longer (Dns start len) s e = absurd (omega (arith, e))
-  no_longer (Relay start len) s e = absurd (omega (arith, e))
-  no_longer (Tcp len) s e = absurd (omega (arith, e))
-  no_longer (TooLong len) s e = absurd (omega (arith, e))
-  no_longer (CutType place) s e = absurd (omega (arith, e))
+  no_longer : (d : Result Decision Refusal) → Says net frame d → number d ≡ 1 → value d ≤ 65549
+  unfolding Says number value outcome_of
+  no_longer (Ok Drop) s e = omega arith
+  no_longer (Ok (DropNoting xid)) s e = omega arith
+  no_longer (Ok ArpReply) s e = omega (arith, framing_tells guest 42 (arp_reply_lem net frame))
+  no_longer (Ok (EchoReply start)) s e = omega (arith, framing_tells (spent guest) (34 + length (drop start frame)) (echo_frame guest frame start), (echo_needs start s).0)
+  no_longer (Ok (DhcpReply xid type)) s e = omega (arith, framing_tells (spent (noting xid guest)) 342 (dhcp_frame guest frame xid type))
+  no_longer (Ok (Dns start len)) s e = absurd (omega (arith, e))
+  no_longer (Ok (Relay start len)) s e = absurd (omega (arith, e))
+  no_longer (Ok (Tcp len)) s e = absurd (omega (arith, e))
+  no_longer (Err (NoRoom needed)) s e = absurd s
+  no_longer (Err (TooLong len)) s e = absurd (omega (arith, e))
+  no_longer (Err (CutType place)) s e = absurd (omega (arith, e))
 
   -- a reply has at most 65,549 bytes
   pub never_longer : get_or (outcome guest frame room).writing.numbers 0 0 ≡ 1 → get_or (outcome guest frame room).writing.numbers 1 0 ≤ 65549

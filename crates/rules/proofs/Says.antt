@@ -16,70 +16,33 @@ use Rattle.wire.specs.Rfc792.{message_type_lem}
 use Rattle.wire.specs.Rfc826 as Arp
 use Rattle.wire.specs.Rfc894.{body, type_of}
 use Rattle.wire.specs.Rfc2131 as Dhcp
+use Rattle.std.specs.Prelude.{Result, Ok, Err}
+use Rattle.record.specs.declared.answer.Refusal.{Refusal}
+use Rattle.record.specs.declared.answer.Refusal.TheVariants.{NoRoom, TooLong, CutType}
 use Rattle.record.specs.declared.network.Network.{Network}
 use Rattle.rules.specs.Rules.{payload_at_lem, payload, data_at, data_length, datagram_data, decision, arp_decision, ip_decision, icmp_decision, udp_decision, dhcp_decision, type_decision}
 use Rattle.rules.specs.Same.{same}
 use Rattle.rules.specs.Seen.{Carries, Datagram, Message, CutMessage, Handed, Query, Outbound, EchoAsked, TooLongPing, Segment}
 use Rattle.rules.specs.declared.decision.Decision.{Decision}
-use Rattle.rules.specs.declared.decision.Decision.TheVariants.{Drop, DropNoting, ArpReply, EchoReply, DhcpReply, Dns, Relay, Tcp, TooLong, CutType}
+use Rattle.rules.specs.declared.decision.Decision.TheVariants.{Drop, DropNoting, ArpReply, EchoReply, DhcpReply, Dns, Relay, Tcp}
 use Rattle.base.proofs.Choice.{both_left, both_right}
 use Rattle.rules.proofs.Same.{same_equal, equal_same}
 
-unfoldable pub Says : Network → (frame : List ℕ) → Decision → Type 0
-Says net frame Drop = Unit
-Says net frame (DropNoting xid) = Message frame xid
-Says net frame ArpReply = (type_of frame ≡ 0x0806) × (42 ≤ length frame)
-Says net frame (EchoReply start) = EchoAsked net frame × (start ≡ payload_at_lem frame) × (length (payload frame) ≤ 65515)
-Says net frame (DhcpReply xid type) = Message frame xid × ((type ≡ 2) ⊎ (type ≡ 5))
-Says net frame (Dns start len) = Query net frame start len
-Says net frame (Relay start len) = Outbound net frame start len
-Says net frame (Tcp len) = Segment frame len
-Says net frame (TooLong len) = TooLongPing net frame len
-Says net frame (CutType place) = CutMessage frame place
-
-module _ (net : Network) (frame : List ℕ) where
-  nothing : Says net frame Drop
-  unfolding Says
-  nothing = tt
-
-  noted : (xid : ℕ) → Message frame xid → Says net frame (DropNoting xid)
-  unfolding Says
-  noted xid m = m
-
-  answered : (xid type : ℕ) → Message frame xid → (type ≡ 2) ⊎ (type ≡ 5) → Says net frame (DhcpReply xid type)
-  unfolding Says
-  answered xid type m t = (m, t)
-
-  asked : type_of frame ≡ 0x0806 → 42 ≤ length frame → Says net frame ArpReply
-  unfolding Says
-  asked t long = (t, long)
-
-  pinged : EchoAsked net frame → length (payload frame) ≤ 65515 → Says net frame (EchoReply (payload_at_lem frame))
-  unfolding Says
-  pinged r within = (r, refl, within)
-
-  too_long : (len : ℕ) → TooLongPing net frame len → Says net frame (TooLong len)
-  unfolding Says
-  too_long len p = p
-
-  named : (start len : ℕ) → Query net frame start len → Says net frame (Dns start len)
-  unfolding Says
-  named start len q = q
-
-  sent : (start len : ℕ) → Outbound net frame start len → Says net frame (Relay start len)
-  unfolding Says
-  sent start len o = o
-
-  segment : (len : ℕ) → Segment frame len → Says net frame (Tcp len)
-  unfolding Says
-  segment len s = s
-
-  cut_off : (place : ℕ) → CutMessage frame place → Says net frame (CutType place)
-  unfolding Says
-  cut_off place c = c
+unfoldable pub Says : Network → (frame : List ℕ) → Result Decision Refusal → Type 0
+Says net frame (Ok Drop) = Unit
+Says net frame (Ok (DropNoting xid)) = Message frame xid
+Says net frame (Ok ArpReply) = (type_of frame ≡ 0x0806) × (42 ≤ length frame)
+Says net frame (Ok (EchoReply start)) = EchoAsked net frame × (start ≡ payload_at_lem frame) × (length (payload frame) ≤ 65515)
+Says net frame (Ok (DhcpReply xid type)) = Message frame xid × ((type ≡ 2) ⊎ (type ≡ 5))
+Says net frame (Ok (Dns start len)) = Query net frame start len
+Says net frame (Ok (Relay start len)) = Outbound net frame start len
+Says net frame (Ok (Tcp len)) = Segment frame len
+Says net frame (Err (NoRoom needed)) = ⊥  -- the room isn't looked at
+Says net frame (Err (TooLong len)) = TooLongPing net frame len
+Says net frame (Err (CutType place)) = CutMessage frame place
 
 -- what holds in both cases of a test holds
-pub either : (P : Decision → Type 0) (t : Bool) (a b : Decision) → (t ≡ true → P a) → (t ≡ false → P b) → P (cond t a b)
+pub either : {A : Type 0} (P : A → Type 0) (t : Bool) (a b : A) → (t ≡ true → P a) → (t ≡ false → P b) → P (cond t a b)
 either P true a b f g = f refl
 either P false a b f g = g refl
 
@@ -95,21 +58,21 @@ offer_or_ack false true answer e f = inr e
 offer_or_ack false false answer e f = absurd (subst T (rw e at f) tt)
 
 module _ (net : Network) (frame : List ℕ) where
-  arp_says : type_of frame ≡ 0x0806 → Says net frame (arp_decision net frame)
-  unfolding arp_decision
+  arp_says : type_of frame ≡ 0x0806 → Says net frame (Ok (arp_decision net frame))
+  unfolding Says arp_decision
   arp_says t =
-      either (Says net frame) (ltb (length frame) 42) _ _ (λ e. nothing net frame) (λ long.
-      either (Says net frame) (not (eqb (Arp.operation (body frame)) 1)) _ _ (λ e. nothing net frame) (λ f.
-      either (Says net frame) (not (same (Arp.sought_address (body frame)) net.gateway)) _ _ (λ e. nothing net frame) (λ g.
-      asked net frame t (ltb-false (length frame) 42 long))))
+      either (λ (d : Decision). Says net frame (Ok d)) (ltb (length frame) 42) _ _ (λ e. tt) (λ long.
+      either (λ (d : Decision). Says net frame (Ok d)) (not (eqb (Arp.operation (body frame)) 1)) _ _ (λ e. tt) (λ f.
+      either (λ (d : Decision). Says net frame (Ok d)) (not (same (Arp.sought_address (body frame)) net.gateway)) _ _ (λ e. tt) (λ g.
+      (t, ltb-false (length frame) 42 long))))
 
   icmp_says : Carries frame 1 → Says net frame (icmp_decision net frame)
-  unfolding icmp_decision
+  unfolding Says icmp_decision
   icmp_says icmp =
-      either (Says net frame) (not (same (target_of (body frame)) net.gateway)) _ _ (λ e. nothing net frame) (λ ours.
-      either (Says net frame) (ltb (length frame) (payload_at_lem frame)) _ _ (λ f. nothing net frame) (λ past.
-      either (Says net frame) (ltb (length (payload frame)) 8) _ _ (λ f. nothing net frame) (λ short.
-      either (Says net frame) (not (eqb (message_type_lem (payload frame)) 8)) _ _ (λ f. nothing net frame) (λ type.
+      either (Says net frame) (not (same (target_of (body frame)) net.gateway)) _ _ (λ e. tt) (λ ours.
+      either (Says net frame) (ltb (length frame) (payload_at_lem frame)) _ _ (λ f. tt) (λ past.
+      either (Says net frame) (ltb (length (payload frame)) 8) _ _ (λ f. tt) (λ short.
+      either (Says net frame) (not (eqb (message_type_lem (payload frame)) 8)) _ _ (λ f. tt) (λ type.
       let r : EchoAsked net frame =
       record {
         icmp = icmp;
@@ -119,19 +82,20 @@ module _ (net : Network) (frame : List ℕ) where
         request = eqb-true (message_type_lem (payload frame)) 8 (not-false _ type);
       } in
       either (Says net frame) (ltb 65515 (length (payload frame))) _ _
-      (λ over. too_long net frame _ (record { asked = r; its_length = refl; over = ltb-true 65515 (length (payload frame)) over }))
-      (λ within. pinged net frame r (ltb-false 65515 (length (payload frame)) within))))))
+      (λ over. record { asked = r; its_length = refl; over = ltb-true 65515 (length (payload frame)) over })
+      (λ within. (r, refl, ltb-false 65515 (length (payload frame)) within))))))
 
   type_says : Message frame (Dhcp.transaction_id (datagram_data frame)) → Dhcp.magic_cookie (datagram_data frame) ≡ 0x63825363 → (w : Walked) → walk (datagram_data frame) ≡ w
       → Says net frame (type_decision (Dhcp.transaction_id (datagram_data frame)) w)
-  type_says m c (typed type) e = either (Says net frame) (eqb (answering type) 0) _ _ (λ f. noted net frame _ m) (λ f. answered net frame _ _ m (offer_or_ack (eqb type 1) (eqb type 3) _ refl f))
-  type_says m c (cut place) e = cut_off net frame place (record { message = m; cookie = c; cut_off = e })
+  unfolding Says
+  type_says m c (typed type) e = either (Says net frame) (eqb (answering type) 0) _ _ (λ f. m) (λ f. (m, offer_or_ack (eqb type 1) (eqb type 3) _ refl f))
+  type_says m c (cut place) e = record { message = m; cookie = c; cut_off = e }
 
   dhcp_says : Datagram frame → source_port (payload frame) ≡ 68 → target_port (payload frame) ≡ 67 → Says net frame (dhcp_decision (datagram_data frame))
-  unfolding dhcp_decision
+  unfolding Says dhcp_decision
   dhcp_says datagram from to =
-      either (Says net frame) (ltb (length (datagram_data frame)) 240) _ _ (λ e. nothing net frame) (λ short.
-      either (Says net frame) (not (eqb (Dhcp.operation (datagram_data frame)) 1)) _ _ (λ e. nothing net frame) (λ client.
+      either (Says net frame) (ltb (length (datagram_data frame)) 240) _ _ (λ e. tt) (λ short.
+      either (Says net frame) (not (eqb (Dhcp.operation (datagram_data frame)) 1)) _ _ (λ e. tt) (λ client.
       let m : Message frame (Dhcp.transaction_id (datagram_data frame)) =
       record {
         datagram = datagram;
@@ -141,18 +105,18 @@ module _ (net : Network) (frame : List ℕ) where
         from_client = eqb-true (Dhcp.operation (datagram_data frame)) 1 (not-false _ client);
         its_xid = refl;
       } in
-      either (Says net frame) (not (eqb (Dhcp.magic_cookie (datagram_data frame)) 0x63825363)) _ _ (λ e. noted net frame _ m) (λ cookie.
+      either (Says net frame) (not (eqb (Dhcp.magic_cookie (datagram_data frame)) 0x63825363)) _ _ (λ e. m) (λ cookie.
       type_says m (eqb-true (Dhcp.magic_cookie (datagram_data frame)) 0x63825363 (not-false _ cookie)) (walk (datagram_data frame)) refl)))
 
   udp_says : Carries frame 17 → Says net frame (udp_decision net frame)
-  unfolding udp_decision
+  unfolding Says udp_decision
   udp_says udp =
       let s = source_port (payload frame) in
       let t = target_port (payload frame) in
       let ours = same (target_of (body frame)) net.gateway in
-      either (Says net frame) (ltb (length frame) (payload_at_lem frame)) _ _ (λ e. nothing net frame) (λ past.
-      either (Says net frame) (ltb (length (payload frame)) 8) _ _ (λ e. nothing net frame) (λ short.
-      either (Says net frame) (ltb (length_field (payload frame)) 8) _ _ (λ e. nothing net frame) (λ small.
+      either (Says net frame) (ltb (length frame) (payload_at_lem frame)) _ _ (λ e. tt) (λ past.
+      either (Says net frame) (ltb (length (payload frame)) 8) _ _ (λ e. tt) (λ short.
+      either (Says net frame) (ltb (length_field (payload frame)) 8) _ _ (λ e. tt) (λ small.
       let d : Datagram frame =
       record {
         udp = udp;
@@ -165,15 +129,13 @@ module _ (net : Network) (frame : List ℕ) where
       (λ other.
       either (Says net frame) (ours && eqb t 53) _ _
       (λ e.
-      named net frame _ _
-      (record { handed = handed d; to_gateway_lem = same_equal _ _ (both_left ours (eqb t 53) e); to_53 = eqb-true t 53 (both_right ours (eqb t 53) e) }))
+      record { handed = handed d; to_gateway_lem = same_equal _ _ (both_left ours (eqb t 53) e); to_53 = eqb-true t 53 (both_right ours (eqb t 53) e) })
       (λ e.
-      sent net frame _ _
-      (record {
+      record {
         handed = handed d;
         no_dhcp = λ p q. not_both (eqb s 68) (eqb t 67) other (eq-eqb s 68 p) (eq-eqb t 67 q);
         no_query = λ p q. not_both ours (eqb t 53) e (ap (λ (l : List ℕ). same l net.gateway) p ∙ equal_same net.gateway) (eq-eqb t 53 q);
-      }))))))
+      })))))
     where
       no_longer : (l f : ℕ) → cond (ltb l f) l f ≤ l
       no_longer l f = go (ltb l f) refl
@@ -193,24 +155,24 @@ module _ (net : Network) (frame : List ℕ) where
           }
 
   ip_says : type_of frame ≡ 0x0800 → Says net frame (ip_decision net frame)
-  unfolding ip_decision
+  unfolding Says ip_decision
   ip_says t =
       let carries : (protocol : ℕ) → ltb (length frame) 34 ≡ false → eqb (protocol_of (body frame)) protocol ≡ true → Carries frame protocol =
       λ protocol short p. record { long = ltb-false (length frame) 34 short; ipv4 = t; carried = eqb-true (protocol_of (body frame)) protocol p } in
-      either (Says net frame) (ltb (length frame) 34) _ _ (λ e. nothing net frame) (λ short.
+      either (Says net frame) (ltb (length frame) 34) _ _ (λ e. tt) (λ short.
       either (Says net frame) (eqb (protocol_of (body frame)) 1) _ _ (λ p. icmp_says (carries 1 short p)) (λ e.
-      either (Says net frame) (eqb (protocol_of (body frame)) 6) _ _ (λ p. segment net frame _ (record { tcp = carries 6 short p; its_length = refl })) (λ f.
-      either (Says net frame) (eqb (protocol_of (body frame)) 17) _ _ (λ p. udp_says (carries 17 short p)) (λ g. nothing net frame))))
+      either (Says net frame) (eqb (protocol_of (body frame)) 6) _ _ (λ p. record { tcp = carries 6 short p; its_length = refl }) (λ f.
+      either (Says net frame) (eqb (protocol_of (body frame)) 17) _ _ (λ p. udp_says (carries 17 short p)) (λ g. tt))))
 
   pub says : Says net frame (decision net frame)
-  unfolding decision
+  unfolding Says decision
   says =
-      either (Says net frame) (ltb (length frame) 14) _ _ (λ e. nothing net frame) (λ e.
+      either (Says net frame) (ltb (length frame) 14) _ _ (λ e. tt) (λ e.
       either (Says net frame) (eqb (type_of frame) 0x0806) _ _ (λ t. arp_says (eqb-true (type_of frame) 0x0806 t)) (λ f.
-      either (Says net frame) (eqb (type_of frame) 0x0800) _ _ (λ t. ip_says (eqb-true (type_of frame) 0x0800 t)) (λ g. nothing net frame)))
+      either (Says net frame) (eqb (type_of frame) 0x0800) _ _ (λ t. ip_says (eqb-true (type_of frame) 0x0800 t)) (λ g. tt)))
 
   -- the tests that a ping passes lead to its length
-  echo_decided : EchoAsked net frame → decision net frame ≡ cond (ltb 65515 (length (payload frame))) (TooLong (length (payload frame))) (EchoReply (payload_at_lem frame))
+  echo_decided : EchoAsked net frame → decision net frame ≡ cond (ltb 65515 (length (payload frame))) (Err (TooLong (length (payload frame)))) (Ok (EchoReply (payload_at_lem frame)))
   unfolding decision ip_decision icmp_decision
   echo_decided a =
       let c = a.icmp in
@@ -248,7 +210,7 @@ module _ (net : Network) (frame : List ℕ) where
       )
 
   -- a TCP frame is decided so
-  pub tcp_decided : Carries frame 6 → decision net frame ≡ Tcp (length frame)
+  pub tcp_decided : Carries frame 6 → decision net frame ≡ Ok (Tcp (length frame))
   unfolding decision ip_decision
   tcp_decided c =
       simp (
@@ -261,9 +223,9 @@ module _ (net : Network) (frame : List ℕ) where
       )
 
   -- a ping too long is decided so
-  pub too_long_decided : EchoAsked net frame → 65515 < length (payload frame) → decision net frame ≡ TooLong (length (payload frame))
+  pub too_long_decided : EchoAsked net frame → 65515 < length (payload frame) → decision net frame ≡ Err (TooLong (length (payload frame)))
   too_long_decided a over = rw (lt-ltb 65515 (length (payload frame)) over) at (echo_decided a)
 
   -- and one that is not is answered
-  pub echo_answered : EchoAsked net frame → length (payload frame) ≤ 65515 → decision net frame ≡ EchoReply (payload_at_lem frame)
+  pub echo_answered : EchoAsked net frame → length (payload frame) ≤ 65515 → decision net frame ≡ Ok (EchoReply (payload_at_lem frame))
   echo_answered a within = rw (le-ltb 65515 (length (payload frame)) within) at (echo_decided a)

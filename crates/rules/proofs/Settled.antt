@@ -8,8 +8,11 @@ use Rattle.record.specs.Answer.{framing}
 use Rattle.record.specs.Guest.{Settled, noting, spent}
 use Rattle.record.specs.declared.guest.Guest.{Guest}
 use Rattle.rules.specs.Rules.{decision, outcome, outcome_of}
+use Rattle.std.specs.Prelude.{Result, Ok, Err}
+use Rattle.record.specs.declared.answer.Refusal.{Refusal}
+use Rattle.record.specs.declared.answer.Refusal.TheVariants.{NoRoom, TooLong, CutType}
 use Rattle.rules.specs.declared.decision.Decision.{Decision}
-use Rattle.rules.specs.declared.decision.Decision.TheVariants.{Drop, DropNoting, ArpReply, EchoReply, DhcpReply, Dns, Relay, Tcp, TooLong, CutType}
+use Rattle.rules.specs.declared.decision.Decision.TheVariants.{Drop, DropNoting, ArpReply, EchoReply, DhcpReply, Dns, Relay, Tcp}
 
 module _ (guest : Guest) (frame : List ℕ) (room : ℕ) where
   same : Settled guest guest
@@ -20,18 +23,19 @@ module _ (guest : Guest) (frame : List ℕ) (room : ℕ) where
   by_room true next s = same
   by_room false next s = s
 
-  settled_by : (d : Decision) → Settled guest (outcome_of guest frame room d).guest
+  settled_by : (d : Result Decision Refusal) → Settled guest (outcome_of guest frame room d).guest
   unfolding outcome_of framing
-  settled_by Drop = same
-  settled_by (DropNoting xid) = record { mac_kept = refl; network_kept = refl }
-  settled_by ArpReply = by_room (ltb room 42) guest same
-  settled_by (EchoReply start) = by_room (ltb room _) (spent guest) (record { mac_kept = refl; network_kept = refl })
-  settled_by (DhcpReply xid type) = by_room (ltb room 342) (spent (noting xid guest)) (record { mac_kept = refl; network_kept = refl })
-  settled_by (Dns start len) = same
-  settled_by (Relay start len) = same
-  settled_by (Tcp len) = same
-  settled_by (TooLong len) = same
-  settled_by (CutType place) = same
+  settled_by (Ok Drop) = same
+  settled_by (Ok (DropNoting xid)) = record { mac_kept = refl; network_kept = refl }
+  settled_by (Ok ArpReply) = by_room (ltb room 42) guest same
+  settled_by (Ok (EchoReply start)) = by_room (ltb room _) (spent guest) (record { mac_kept = refl; network_kept = refl })
+  settled_by (Ok (DhcpReply xid type)) = by_room (ltb room 342) (spent (noting xid guest)) (record { mac_kept = refl; network_kept = refl })
+  settled_by (Ok (Dns start len)) = same
+  settled_by (Ok (Relay start len)) = same
+  settled_by (Ok (Tcp len)) = same
+  settled_by (Err (NoRoom needed)) = same
+  settled_by (Err (TooLong len)) = same
+  settled_by (Err (CutType place)) = same
 
   pub outcome_settled : Settled guest (outcome guest frame room).guest
   unfolding outcome

@@ -4,4 +4,4 @@
 
 mod decision;
 
-pub use decision::{Decision, decide, payload_length};
+pub use decision::{Decision, decide};
