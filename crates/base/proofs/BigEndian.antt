@@ -1,5 +1,5 @@
 -- The bytes of a number, and the number of bytes, as std's methods have them: they are the wire's, of a number of that width.
-use Rattle.std.proofs.Common.{◌≡◌, ℕ, ◌^◌, ◌<◌, ◌/◌, ◌%◌, List, [], ◌∷◌, w16, w32, arith}
+use Rattle.std.proofs.Common.{◌≡◌, ℕ, ◌^◌, ◌<◌, List, w16, w32, arith}
 use Rattle.std.specs.Int.{to_be_bytes, from_be_bytes}
 use Rattle.base.specs.Bytes.{be16, be32, u16_at, u32_at}
 

@@ -120,13 +120,6 @@ put-put at s t b h = ap₂ (λ (x y : List ℕ). x ++ t ++ y) front behind ∙ r
     regroup : take at b ++ s ++ t ++ drop (at + length s + length t) b ≡ put at (s ++ t) b
     regroup = simp (append_assoc, length-append, add_assoc)
 
--- the same of a third piece behind two
-pub put_behind : (at : ℕ) (s t u b : List ℕ) → at + (length s + length t + length u) ≤ length b
-    → put (at + length s + length t) u (put at (s ++ t) b) ≡ put at (s ++ t ++ u) b
-put_behind at s t u b h =
-    let both : length (s ++ t) ≡ length s + length t = length-append s t in
-    ap (λ (n : ℕ). put n u (put at (s ++ t) b)) (omega arith) ∙ put-put at (s ++ t) u b (omega arith)
-
 -- two pieces, the second put first, and the first right in front of it
 pub put_in_front : (at : ℕ) (s t b : List ℕ) → at + (length s + length t) ≤ length b → put at s (put (at + length s) t b) ≡ put at (s ++ t) b
 unfolding put

@@ -4,14 +4,16 @@ use mathlib.Core.Path.{◌≡◌}
 use mathlib.Core.List.{List, [], ◌∷◌}
 use lib.ListN.{length, take}
 use Rattle.record.specs.Answer.{paper, Wrote}
+use Rattle.std.proofs.Common.{Result}
 use Rattle.record.specs.declared.answer.Verdict.{Verdict}
+use Rattle.record.specs.declared.answer.Refusal.{Refusal}
 use Rattle.record.proofs.InBuffer.{InBuffer, in_buffer}
 use Rattle.wire.specs.Rfc768.{datagram}
 use Rattle.datagrams.specs.Builders.{make_udp_payload_lem}
 use Rattle.datagrams.proofs.Datagram.{length_datagram}
 use Rattle.datagrams.proofs.ReadBack.{DatagramOf, datagram_reads_back}
 
-module _ (before after : List ℕ) (v : Verdict) (n : ℕ) (from to : List ℕ) (source target : ℕ) (d : List ℕ) (one : paper v ≡ 1 ∷ n ∷ [])
+module _ (before after : List ℕ) (v : Result Verdict Refusal) (n : ℕ) (from to : List ℕ) (source target : ℕ) (d : List ℕ) (one : paper v ≡ 1 ∷ n ∷ [])
     (w : Wrote (make_udp_payload_lem from to source target d (length before)) before after v) where
   pub datagram_in_buffer : InBuffer (datagram from to source target d) before after n
   datagram_in_buffer =

@@ -6,9 +6,11 @@ use lib.ListN.{length}
 use Rattle.datagrams.specs.Builders.{make_udp_payload_lem}
 use Rattle.record.proofs.OneAnswer.{one_writing}
 use Rattle.record.specs.Answer.{Wrote}
+use Rattle.std.proofs.Common.{Result}
 use Rattle.record.specs.declared.answer.Verdict.{Verdict}
+use Rattle.record.specs.declared.answer.Refusal.{Refusal}
 
-pub make_udp_payload_answers_once : (before after after' : List ℕ) (v v' : Verdict) (from to : List ℕ) (source target : ℕ) (body : List ℕ)
+pub make_udp_payload_answers_once : (before after after' : List ℕ) (v v' : Result Verdict Refusal) (from to : List ℕ) (source target : ℕ) (body : List ℕ)
     → Wrote (make_udp_payload_lem from to source target body (length before)) before after v
     → Wrote (make_udp_payload_lem from to source target body (length before)) before after' v' → (v ≡ v') × (after ≡ after')
 make_udp_payload_answers_once before after after' v v' from to source target body = one_writing _ before after after' v v'

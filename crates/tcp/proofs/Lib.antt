@@ -1,4 +1,5 @@
 pub mod TcpLaws
+pub mod Pieces
 pub mod OneAnswer
 pub mod SumsRight
 pub mod ReadBack

@@ -5,7 +5,7 @@ use mathlib.Core.Bool.{Bool, true, false, cond}
 use mathlib.Core.List.{List, []}
 use native.Mathlib.Omega.{arith}
 use borrow.Author.Tests.{eq-eqb, ne_eqb}
-use lib.ListN.{length, take, length-append}
+use lib.ListN.{length, length-append}
 use lib.Bits.{bit_and, and_high}
 use Rattle.tcp.specs.Rfc9293.{syn_set, options, syn_options, segment, summed_header_lem, segment_header_lem, tcp_frame}
 use Rattle.frames.proofs.Lengths.{length_ip_frame}
@@ -40,10 +40,6 @@ options_even flags = syn_cases (λ o n. length o % 2 ≡ 0) flags refl refl
 
 pub options_words : (flags : ℕ) → length (options flags) % 4 ≡ 0
 options_words flags = syn_cases (λ o n. length o % 4 ≡ 0) flags refl refl
-
--- the first eight or none of the eight option bytes
-pub options_take : (flags : ℕ) → take (length (options flags)) syn_options ≡ options flags
-options_take flags = syn_cases (λ o n. take (length o) syn_options ≡ o) flags refl refl
 
 -- data within its limit leaves the segment within 65,515 bytes
 pub limit_holds : (flags : ℕ) → 20 + length (options flags) + data_limit_lem flags ≡ 65515

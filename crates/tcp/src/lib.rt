@@ -2,19 +2,17 @@
 // checks by its caller.
 #![tactic(auto)]
 
-ghost use Rattle.std.specs.Prelude.{◌≡◌, ◌++◌, ◌+◌, ◌%◌, ◌≤◌, length};
-ghost use Rattle.record.specs.Answer.{Meets};
-ghost use Rattle.base.specs.Buffer.{put as Buffer·put};
-ghost use Rattle.tcp.specs.Builders.{data_limit_lem, make_tcp_frame_lem};
+ghost use Rattle.std.specs.Prelude.{◌≡◌, ◌++◌, ◌≤◌, length};
+ghost use Rattle.record.specs.Answer.{Meets, Wrote, as_verdict};
+ghost use Rattle.tcp.specs.Builders.{built_tcp_frame, make_tcp_frame_lem};
 ghost use Rattle.sums.specs.Rfc1071.{checksum as Rfc1071·checksum};
-ghost use Rattle.tcp.specs.Rfc9293.{segment, segment_header_lem, summed_header_lem, options as Rfc9293·options};
-ghost use Rattle.wire.specs.Rfc768.{covered};
+ghost use Rattle.tcp.specs.Rfc9293.{segment_header_lem, options as Rfc9293·options};
+ghost use Rattle.wire.specs.Rfc768.{pseudo_header_lem};
 
 use base::put;
-use frames::make_ip_frame_in_place;
-use record::{Answer, Guest, Verdict};
+use frames::{Packet, put_headers};
+use record::{Answer, Guest, Refusal, within_limit, within_room};
 use sums::sum;
-use wire::bytes::be32;
 use wire::tcp::{HEADER, SYN};
 use wire::udp::pseudo_header;
 use wire::{ethernet, ipv4};
@@ -29,8 +27,23 @@ pub struct Endpoints {
     pub dst_port: u16,
 }
 
+// A segment but for its data: what its header says, and its length with header and data.
+#[derive(Clone, Copy)]
+struct Segment {
+    ends: Endpoints,
+    seq: u32,
+    ack: u32,
+    flags: u8,
+    len: u16,
+}
+
 // The segment lies behind the Ethernet and the IPv4 header.
 const SEGMENT_AT: usize = ethernet::HEADER + ipv4::HEADER;
+
+const OPTIONS_AT: usize = SEGMENT_AT + HEADER;
+
+// The longest data behind a header without options.
+const DATA_LIMIT: usize = ipv4::PAYLOAD_LIMIT - HEADER;
 
 const WINDOW: u16 = 65535;
 
@@ -51,133 +64,110 @@ pub fn make_tcp_frame(
         (make_tcp_frame_lem guest ends seq ack flags «data».now (length out.old))
         out.old out.new result }
 {
-    let len = data.len();
-    let option_len = options_length(flags);
-    if data_limit(flags) < len {
-        return guest.answer(Verdict::TooLong(len));
-    }
-    let segment_len = HEADER + option_len + len;
-    if out.len() < SEGMENT_AT + segment_len {
-        return guest.answer(Verdict::NoRoom(SEGMENT_AT + segment_len));
-    }
-    put_segment(ends, seq, ack, flags, data, out);
-    let dst_mac = ends.dst_mac;
-    let src_ip = ends.src_ip;
-    let dst_ip = ends.dst_ip;
-    make_ip_frame_in_place(guest, dst_mac, src_ip, dst_ip, ipv4::TCP, segment_len, out)
+    guest.built(build_frame(guest.id, ends, seq, ack, flags, data, out))
 }
 
-// The segment, with its checksum, from 34 on.
-fn put_segment(ends: Endpoints, seq: u32, ack: u32, flags: u8, data: &[u8], out: &mut [u8])
-    requires data_len_bound { length «data».now ≤ data_limit_lem flags }
-    requires data_in_bounds { 54 + length (Rfc9293·options flags) + length «data».now ≤ length out.old }
-    ensures { out.new ≡ Buffer·put 34 (segment ends seq ack flags «data».now) out.old }
-{
-    let all_options = SYN_OPTIONS;
-    let option_len = options_length(flags);
-    let options = &all_options[..option_len];
-    let header = summed_header(ends, seq, ack, flags, options, data);
-    put_three(out, SEGMENT_AT, &header, options, data);
-}
-
-// Copies three pieces into `out` from `at` on, one behind the other.
-fn put_three(out: &mut [u8], at: usize, first: &[u8], second: &[u8], third: &[u8])
-    requires { at + (length first.now + length second.now + length third.now) ≤ length out.old }
-    ensures { out.new ≡ Buffer·put at (first.now ++ second.now ++ third.now) out.old }
-{
-    put(out, at, first);
-    put(out, at + first.len(), second);
-    put(out, at + first.len() + second.len(), third);
-}
-
-// The header with the segment's checksum in it.
-fn summed_header(
+// The same with no record to hand back: the bytes written, or why none was. Each piece stands right behind the one before
+// it: the frame's headers, the segment's, its options, the data.
+fn build_frame(
+    id: u16,
     ends: Endpoints,
     seq: u32,
     ack: u32,
     flags: u8,
-    options: &[u8],
     data: &[u8],
-) -> [u8; 20]
-    requires options_value { options.now ≡ Rfc9293·options flags }
-    requires data_len_bound { length «data».now ≤ data_limit_lem flags }
-    ensures { result ≡ summed_header_lem ends seq ack flags «data».now }
+    out: &mut [u8],
+) -> Result<usize, Refusal>
+    ensures { Wrote
+        (built_tcp_frame id ends seq ack flags «data».now (length out.old))
+        out.old out.new (as_verdict result) }
 {
+    let options = options(flags);
+    let data_len = within_limit(DATA_LIMIT - options.len(), data.len())?;
+    let len = HEADER + options.len() + data_len;
+    let need = within_room(out.len(), SEGMENT_AT + len)?;
     let src_ip = ends.src_ip;
     let dst_ip = ends.dst_ip;
-    let blank = segment_header(0, ends.src_port, ends.dst_port, seq, ack, flags);
-    let csum = segment_checksum(src_ip, dst_ip, &blank, options, data);
-    segment_header(csum, ends.src_port, ends.dst_port, seq, ack, flags)
-}
-
-// The sum goes on from piece to piece, so that nothing is copied behind the pseudo-header.
-fn segment_checksum(
-    src_ip: [u8; 4],
-    dst_ip: [u8; 4],
-    header: &[u8; 20],
-    options: &[u8],
-    data: &[u8],
-) -> u16
-    requires options_len { length options.now % 2 ≡ 0 }
-    requires data_bound { 20 + length options.now + length «data».now ≤ 65535 }
-    ensures { result ≡ Rfc1071·checksum (covered 6 src_ip dst_ip (header.now ++ options.now ++ «data».now)) }
-{
-    let len = HEADER + options.len() + data.len();
-    let pseudo = pseudo_header(src_ip, dst_ip, ipv4::TCP, len as u16);
-    65535 - sum(sum(sum(sum(0, &pseudo), header), options), data)
-}
-
-fn segment_header(
-    csum: u16,
-    src_port: u16,
-    dst_port: u16,
-    seq: u32,
-    ack: u32,
-    flags: u8,
-) -> [u8; 20]
-    ensures { result ≡ segment_header_lem csum src_port dst_port seq ack flags }
-{
-    let words = ((HEADER + options_length(flags)) / 4) as u8;
-    let seq = be32(seq);
-    let ack = be32(ack);
-    [
-        (src_port / 256) as u8,
-        (src_port % 256) as u8,
-        (dst_port / 256) as u8,
-        (dst_port % 256) as u8,
-        seq[0],
-        seq[1],
-        seq[2],
-        seq[3],
-        ack[0],
-        ack[1],
-        ack[2],
-        ack[3],
-        words << 4,
+    let packet = Packet {
+        total: (ipv4::HEADER + len) as u16,
+        id,
+        proto: ipv4::TCP,
+        src_ip,
+        dst_ip,
+    };
+    let segment = Segment {
+        ends,
+        seq,
+        ack,
         flags,
-        (WINDOW / 256) as u8,
-        (WINDOW % 256) as u8,
-        (csum / 256) as u8,
-        (csum % 256) as u8,
-        0,
-        0,
-    ]
+        len: len as u16,
+    };
+    put_headers(ends.dst_mac, packet, out);
+    put(
+        out,
+        SEGMENT_AT,
+        &segment.header_with(segment.checksum(data)),
+    );
+    put(out, OPTIONS_AT, options);
+    put(out, OPTIONS_AT + options.len(), data);
+    Ok(need)
 }
 
-fn options_length(flags: u8) -> usize
-    ensures { (result ≡ length (Rfc9293·options flags)) × (result ≤ 8) }
-{
-    if flags & SYN != 0 {
-        return 8;
+impl Segment {
+    // Over the pseudo-header, the header, its options and `data`. The sum goes on from piece to piece, so that nothing is
+    // copied behind the pseudo-header.
+    fn checksum(self, data: &[u8]) -> u16
+        ensures { result ≡ Rfc1071·checksum
+            (pseudo_header_lem self.ends.src_ip self.ends.dst_ip 6 self.len
+            ++ (segment_header_lem 0 self.ends.src_port self.ends.dst_port self.seq self.ack self.flags
+            ++ Rfc9293·options self.flags ++ «data».now)) }
+    {
+        let pseudo = pseudo_header(self.ends.src_ip, self.ends.dst_ip, ipv4::TCP, self.len);
+        let blank = self.header_with(0);
+        65535 - sum(sum(sum(sum(0, &pseudo), &blank), options(self.flags)), data)
     }
-    0
+
+    fn header_with(self, csum: u16) -> [u8; 20]
+        ensures { result ≡ segment_header_lem csum self.ends.src_port self.ends.dst_port self.seq self.ack self.flags }
+    {
+        let words = ((HEADER + options(self.flags).len()) / 4) as u8;
+        let source = self.ends.src_port.to_be_bytes();
+        let target = self.ends.dst_port.to_be_bytes();
+        let seq = self.seq.to_be_bytes();
+        let ack = self.ack.to_be_bytes();
+        let window = WINDOW.to_be_bytes();
+        let csum = csum.to_be_bytes();
+        [
+            source[0],
+            source[1],
+            target[0],
+            target[1],
+            seq[0],
+            seq[1],
+            seq[2],
+            seq[3],
+            ack[0],
+            ack[1],
+            ack[2],
+            ack[3],
+            words << 4,
+            self.flags,
+            window[0],
+            window[1],
+            csum[0],
+            csum[1],
+            0,
+            0,
+        ]
+    }
 }
 
-fn data_limit(flags: u8) -> usize
-    ensures { (result ≡ data_limit_lem flags) × (result + length (Rfc9293·options flags) ≤ 65495) }
+// The options of a segment with these flags: only one with SYN has any.
+fn options(flags: u8) -> &'static [u8]
+    ensures { (result.now ≡ Rfc9293·options flags) × (length result.now ≤ 8) }
 {
     if flags & SYN != 0 {
-        return 65487;
+        return &SYN_OPTIONS;
     }
-    65495
+    &[]
 }

@@ -3,24 +3,17 @@ use Prim.Native.Nat.{◌+◌}
 use mathlib.Core.Path.{◌≡◌, ◌∙◌}
 use native.Mathlib.Omega.{arith}
 use lib.ListN.{length}
-use Rattle.std.proofs.lemmas.Result.{err_from_is_err_and}
 use Rattle.base.proofs.Lists.{fits}
 use Rattle.frames.proofs.Framed.{framed}
 use Rattle.frames.proofs.Lengths.{length_headers}
-use Rattle.record.proofs.Built.{too_long, no_room, written}
+use Rattle.record.proofs.Built.{exit_too_long, exit_no_room, written}
 use Rattle.frames.proofs.ipv4.build_in_place.Goals as goal
 
 pub returns-in_err-within_limit : goal.returns-in_err-within_limit
-returns-in_err-within_limit c =
-    let p = err_from_is_err_and c.from_residual.result c.from_residual.ensures.1 in
-    let e = c.in_err-within_limit.ensures in
-    rw (p.1, p.2, e.1) (too_long _ _ _ _ _ _ e.0)
+returns-in_err-within_limit c = exit_too_long _ _ _ _ _ _ _ _ c.from_residual.ensures.1 c.in_err-within_limit.ensures
 
 pub returns-in_err-need : goal.returns-in_err-need
-returns-in_err-need c =
-    let p = err_from_is_err_and c.from_residual-in_err-need.result c.from_residual-in_err-need.ensures.1 in
-    let e = c.in_err-need.ensures in
-    rw (p.1, p.2, e.1) (no_room _ _ _ _ _ _ c.in_ok-within_limit.ensures.0 e.0)
+returns-in_err-need c = exit_no_room _ _ _ _ _ _ _ _ c.from_residual-in_err-need.ensures.1 c.in_ok-within_limit.ensures.0 c.in_err-need.ensures
 
 pub returns : goal.returns
 returns c =
