@@ -1,5 +1,4 @@
 -- What the proofs of several functions use, and that `read_message` answers once.
-mod AllZero
 mod Listing
 mod MessageRead
 pub mod OneAnswer

@@ -1,22 +1,33 @@
 -- What the list and item readers answer, one law for each way their tests end. A list that starts at `at` goes on where its first item ends, so what
 -- is answered for the rest is what is to be answered for all of it.
-use Prim.Native.Nat.{ℕ, zero, suc, ◌+◌, ◌≤◌, ◌<◌}
+use Prim.Native.Nat.{ℕ, suc, ◌+◌, ◌≤◌, ◌<◌}
 use mathlib.Core.Path.{◌≡◌, refl, ap, sym, subst, ◌∙◌}
 use mathlib.Core.Bool.{Bool, true, false}
 use mathlib.Core.List.{List, [], ◌∷◌, ◌++◌}
-use native.Mathlib.Nat.{pos_of_ne-zero, not-suc-le-zero}
+use native.Mathlib.Nat.{pos_of_ne-zero}
 use native.Mathlib.Omega.{arith}
 use native.Mathlib.Numerals.{add-one}
 use lib.Dec.{lit≤}
-use lib.ListN.{length, drop, take, length-drop, drop_of_length-le, take-append-drop}
+use lib.ListN.{length, drop, take, replicate, length-drop, drop_of_length-le, take-append-drop}
 use lib.Seq.{drop-cons, drop-drop, length-take-le}
 use borrow.Author.Tests.{ne_eqb, eqb-false}
+use Rattle.std.proofs.Common.{Option, Some, None}
+use Rattle.std.proofs.lemmas.Option.{none-some, same_Some}
+use Rattle.std.proofs.lemmas.List.{ext_get_or, length-replicate, get_or-replicate}
+use Rattle.std.proofs.lemmas.List.Elements.{All-replicate}
 use Rattle.base.specs.Bytes.{u8_at}
 use Rattle.grammar.specs.Grammar.{Item, pad, option, ItemList, END, item, IsList, options53}
 use Rattle.dhcp_strict.specs.helpers.AllZero.{AllZero}
 use Rattle.dhcp_strict.specs.helpers.Listed.{Gives, before, within, ListGives, Listed}
 use Rattle.grammar.proofs.Items.{Starts, ends, pads, opts, starts, list_nil, no_cons, head_same, tail_same}
-use Rattle.dhcp_strict.proofs.AllZero.{all_zeros, zeros_all}
+
+-- bytes that are all 0 are so many zeros
+all_zeros : (s : List ℕ) → AllZero s → s ≡ replicate (length s) 0
+all_zeros s z =
+    ext_get_or 0 s (replicate (length s) 0) (sym (length-replicate (length s) 0)) (λ i h. z i 0 h ∙ sym (get_or-replicate (length s) i 0 0 h))
+
+zeros_all : (n : ℕ) → AllZero (replicate n 0)
+zeros_all n = All-replicate (λ (byte : ℕ). byte ≡ 0) n 0 refl
 
 -- an option at `at`, and the rest of the list behind it
 record OptionAt (s : List ℕ) (at len : ℕ) (rest : ItemList) : Type 0 where
@@ -25,26 +36,26 @@ record OptionAt (s : List ℕ) (at len : ℕ) (rest : ItemList) : Type 0 where
   pub more : IsList (at + 2 + len) (drop (at + 2 + len) s) rest
 
 -- the same answer for two lists that give the same types
-step : (s : List ℕ) (at next seen seen' r : ℕ) → ((type : ℕ) → ListGives s at seen type → ListGives s next seen' type)
+step : (s : List ℕ) (at next : ℕ) (seen seen' r : Option ℕ) → ((type : ℕ) → ListGives s at seen type → ListGives s next seen' type)
     → ((type : ℕ) → ListGives s next seen' type → ListGives s at seen type) → Listed s next seen' r → Listed s at seen r
 unfolding Listed
-step s at next seen seen' zero to from h = λ type g. h type (to type g)
-step s at next seen seen' (suc n) to from h = from (suc n) h
+step s at next seen seen' None to from h = λ type g. h type (to type g)
+step s at next seen seen' (Some n) to from h = from n h
 
 -- no list gives a type
-nothing : (s : List ℕ) (at seen : ℕ) → ((type : ℕ) → ListGives s at seen type → ⊥) → Listed s at seen 0
+nothing : (s : List ℕ) (at : ℕ) (seen : Option ℕ) → ((type : ℕ) → ListGives s at seen type → ⊥) → Listed s at seen None
 unfolding Listed
 nothing s at seen h = h
 
 -- a list that ends here gives what was seen
-ended : (s : List ℕ) (seen place zeros type : ℕ) → Gives s seen (END place zeros) type → (1 ≤ seen) × (type ≡ seen)
+ended : (s : List ℕ) (seen : Option ℕ) (place zeros type : ℕ) → Gives s seen (END place zeros) type → seen ≡ Some type
 unfolding options53
-ended s seen place zeros type (before least e t) = (least, e)
+ended s seen place zeros type (before e t) = e
 ended s seen place zeros type (within e p t v least most) = absurd (no_cons (option p 53 1) [] t)
 
 -- lists with the same options 53 give the same
-gives_same : (s : List ℕ) (seen type : ℕ) (a b : ItemList) → options53 a ≡ options53 b → Gives s seen a type → Gives s seen b type
-gives_same s seen type a b e (before least f t) = before least f (sym e ∙ t)
+gives_same : (s : List ℕ) (seen : Option ℕ) (type : ℕ) (a b : ItemList) → options53 a ≡ options53 b → Gives s seen a type → Gives s seen b type
+gives_same s seen type a b e (before f t) = before f (sym e ∙ t)
 gives_same s seen type a b e (within z p t v least most) = within z p (sym e ∙ t) v least most
 
 -- an option that isn't 53 is none of them
@@ -59,7 +70,7 @@ unfolding options53
 types_53 place code len e rest = ap (λ (n : ℕ). options53 (item (option place n len) rest)) e
 
 -- no byte left: no list
-pub past : (s : List ℕ) (at seen : ℕ) → length s ≤ at → Listed s at seen 0
+pub past : (s : List ℕ) (at : ℕ) (seen : Option ℕ) → length s ≤ at → Listed s at seen None
 unfolding ListGives
 past s at seen h = nothing s at seen (λ type g. list_nil at g.0 (subst (λ (l : List ℕ). IsList at l g.0) (drop_of_length-le s h) g.1))
 
@@ -73,7 +84,7 @@ length_of [] = 0
 length_of (pad place ∷ rest) = 0
 length_of (option place code len ∷ rest) = len
 
-module _ (s : List ℕ) (at seen : ℕ) (inside : at < length s) where
+module _ (s : List ℕ) (at : ℕ) (seen : Option ℕ) (inside : at < length s) where
   here : drop at s ≡ u8_at s at ∷ drop (at + 1) s
   here = drop-cons s at 0 inside ∙ ap (λ (n : ℕ). u8_at s at ∷ drop n s) (sym (add-one at))
 
@@ -82,12 +93,12 @@ module _ (s : List ℕ) (at seen : ℕ) (inside : at < length s) where
 
   -- END
   module _ (end : u8_at s at ≡ 255) where
-    ends_here : (items : ItemList) → Starts at (u8_at s at) (drop (at + 1) s) items → (AllZero (drop (at + 1) s) × ((type : ℕ) → Gives s seen items type → (1 ≤ seen) × (type ≡ seen)))
+    ends_here : (items : ItemList) → Starts at (u8_at s at) (drop (at + 1) s) items → (AllZero (drop (at + 1) s) × ((type : ℕ) → Gives s seen items type → seen ≡ Some type))
     ends_here (END place zeros) (ends n e z) = (subst AllZero (sym z) (zeros_all n), ended s seen at n)
     ends_here (item first rest) (pads more e l) = absurd (eqb-false 255 0 refl (sym end ∙ e))
     ends_here (item first rest) (opts len m more least most e short l) = absurd (let no_end : u8_at s at ≤ 254 = most in omega arith)
 
-    pub end_refused : (AllZero (drop (at + 1) s) → ⊥) → Listed s at seen 0
+    pub end_refused : (AllZero (drop (at + 1) s) → ⊥) → Listed s at seen None
     unfolding ListGives
     end_refused f = nothing s at seen (λ type g. f (ends_here g.0 (start g.0 g.1)).0)
 
@@ -99,10 +110,9 @@ module _ (s : List ℕ) (at seen : ℕ) (inside : at < length s) where
     unfolding Listed ListGives options53
     end_taken z = answers seen refl
       where
-        answers : (n : ℕ) → n ≡ seen → Listed s at seen n
-        answers zero e =
-            λ type g. let f = ((ends_here g.0 (start g.0 g.1)).1 type g.2).0 in omega (arith, e, f)
-        answers (suc n) e = (END at (length (drop (at + 1) s)), end_list z, before (omega (arith, e)) e refl)
+        answers : (r : Option ℕ) → r ≡ seen → Listed s at seen r
+        answers None e = λ type g. none-some type (e ∙ (ends_here g.0 (start g.0 g.1)).1 type g.2)
+        answers (Some type) e = (END at (length (drop (at + 1) s)), end_list z, before (sym e) refl)
 
   -- a pad
   module _ (is-pad : u8_at s at ≡ 0) where
@@ -116,7 +126,7 @@ module _ (s : List ℕ) (at seen : ℕ) (inside : at < length s) where
     unfolding ListGives IsList options53
     pad_list type (rest, l, g) = (item (pad at) rest, (0 ∷ [], drop (at + 1) s, here ∙ ap (λ (n : ℕ). n ∷ drop (at + 1) s) is-pad, (refl, refl), l), gives_same s seen type rest (item (pad at) rest) refl g)
 
-    pub pad_on : (r : ℕ) → Listed s (at + 1) seen r → Listed s at seen r
+    pub pad_on : (r : Option ℕ) → Listed s (at + 1) seen r → Listed s at seen r
     unfolding ListGives
     pad_on r h = step s at (at + 1) seen seen r (λ type g. pads_here g.0 type (start g.0 g.1) g.2) pad_list h
 
@@ -144,14 +154,14 @@ module _ (s : List ℕ) (at seen : ℕ) (inside : at < length s) where
     options_here (item first rest) (pads more e l) = absurd (no-pad e)
     options_here (item first rest) (opts len m more least most e short l) = (len, more, option_of len m more e short l, refl)
 
-    pub option_cut : (length s ≤ at + 1) → Listed s at seen 0
+    pub option_cut : (length s ≤ at + 1) → Listed s at seen None
     unfolding ListGives
     option_cut h =
         nothing s at seen (λ type g. let f = (options_here g.0 (start g.0 g.1)).2.inside in omega (arith, f))
 
     -- what the option behind its code comes to, where its length is there
     module _ (len : ℕ) (stated : u8_at s (at + 1) ≡ len) where
-      pub option_over : length s < at + 2 + len → Listed s at seen 0
+      pub option_over : length s < at + 2 + len → Listed s at seen None
       unfolding ListGives
       option_over h =
           nothing s at seen
@@ -195,7 +205,7 @@ module _ (s : List ℕ) (at seen : ℕ) (inside : at < length s) where
           )
 
       -- another option than 53
-      pub other_on : at + 2 + len ≤ length s → u8_at s at ≤ 254 → (u8_at s at ≡ 53 → ⊥) → (r : ℕ) → Listed s (at + 2 + len) seen r → Listed s at seen r
+      pub other_on : at + 2 + len ≤ length s → u8_at s at ≤ 254 → (u8_at s at ≡ 53 → ⊥) → (r : Option ℕ) → Listed s (at + 2 + len) seen r → Listed s at seen r
       unfolding ListGives
       other_on fits most other r h = step s at (at + 2 + len) seen seen r to from h
         where
@@ -218,50 +228,51 @@ module _ (s : List ℕ) (at seen : ℕ) (inside : at < length s) where
 
         -- what it gives: nothing was seen before it, it has one byte, that gives the type, and none follows
         gives_first : (items rest : ItemList) (type : ℕ) → items ≡ item (option at (u8_at s at) len) rest → Gives s seen items type
-            → (seen ≡ 0) × (len ≡ 1) × (type ≡ u8_at s (at + 2)) × (1 ≤ type) × (type ≤ 8) × (options53 rest ≡ [])
-        gives_first items rest type e (before least f t) = absurd (no_cons (option at 53 len) (options53 rest) (sym t ∙ ap options53 e ∙ first_type rest))
+            → (seen ≡ None) × (len ≡ 1) × (type ≡ u8_at s (at + 2)) × (1 ≤ type) × (type ≤ 8) × (options53 rest ≡ [])
+        gives_first items rest type e (before f t) = absurd (no_cons (option at 53 len) (options53 rest) (sym t ∙ ap options53 e ∙ first_type rest))
         gives_first items rest type e (within z p t v least most) =
             let same = sym (ap options53 e ∙ first_type rest) ∙ t in
             let place_is : at ≡ p = ap (λ (l : List Item). place_of l) same in
             (z, ap (λ (l : List Item). length_of l) same, v ∙ ap (λ (n : ℕ). u8_at s (n + 2)) (sym place_is), least, most, tail_same (option at 53 len) (option p 53 1) (options53 rest) [] same)
 
-        given : (type : ℕ) → ListGives s at seen type → (seen ≡ 0) × (len ≡ 1) × (type ≡ u8_at s (at + 2)) × (1 ≤ type) × (type ≤ 8)
+        given : (type : ℕ) → ListGives s at seen type → (seen ≡ None) × (len ≡ 1) × (type ≡ u8_at s (at + 2)) × (1 ≤ type) × (type ≤ 8)
         unfolding ListGives
         given type g =
             let o = behind g.0 g.1 in
             let f = gives_first g.0 o.0 type o.2 g.2 in
             (f.0, f.1, f.2, f.3, f.4)
 
-        pub second_type : (seen ≡ 0 → ⊥) → Listed s at seen 0
+        pub second_type : (seen ≡ None → ⊥) → Listed s at seen None
         second_type f = nothing s at seen (λ type g. f (given type g).0)
 
-        pub type_length : (len ≡ 1 → ⊥) → Listed s at seen 0
+        pub type_length : (len ≡ 1 → ⊥) → Listed s at seen None
         type_length f = nothing s at seen (λ type g. f (given type g).1)
 
-        pub type_small : u8_at s (at + 2) ≡ 0 → Listed s at seen 0
+        pub type_small : u8_at s (at + 2) ≡ 0 → Listed s at seen None
         type_small h =
             nothing s at seen (λ type g. let e = (given type g).2 in let least = (given type g).3 in omega (arith, h, e, least))
 
-        pub type_large : 8 < u8_at s (at + 2) → Listed s at seen 0
+        pub type_large : 8 < u8_at s (at + 2) → Listed s at seen None
         type_large h =
             nothing s at seen (λ type g. let e = (given type g).2 in let most = (given type g).4 in omega (arith, e, most))
 
-        pub type_on : at + 2 + len ≤ length s → seen ≡ 0 → len ≡ 1 → 1 ≤ u8_at s (at + 2) → u8_at s (at + 2) ≤ 8
-            → (r : ℕ) → Listed s (at + 2 + len) (u8_at s (at + 2)) r → Listed s at seen r
+        pub type_on : at + 2 + len ≤ length s → seen ≡ None → len ≡ 1 → 1 ≤ u8_at s (at + 2) → u8_at s (at + 2) ≤ 8
+            → (r : Option ℕ) → Listed s (at + 2 + len) (Some (u8_at s (at + 2))) r → Listed s at seen r
         unfolding ListGives
-        type_on fits z one least most r h = step s at (at + 2 + len) seen (u8_at s (at + 2)) r to from h
+        type_on fits z one least most r h = step s at (at + 2 + len) seen (Some (u8_at s (at + 2))) r to from h
           where
-            to : (type : ℕ) → ListGives s at seen type → ListGives s (at + 2 + len) (u8_at s (at + 2)) type
+            to : (type : ℕ) → ListGives s at seen type → ListGives s (at + 2 + len) (Some (u8_at s (at + 2))) type
             to type g =
                 let o = behind g.0 g.1 in
                 let f = gives_first g.0 o.0 type o.2 g.2 in
-                (o.0, o.1, before least f.2 f.5)
+                (o.0, o.1, before (ap Some (sym f.2)) f.5)
 
-            gives : (rest : ItemList) (type : ℕ) → Gives s (u8_at s (at + 2)) rest type → Gives s seen (item (option at (u8_at s at) len) rest) type
-            gives rest type (before l e t) =
+            gives : (rest : ItemList) (type : ℕ) → Gives s (Some (u8_at s (at + 2))) rest type → Gives s seen (item (option at (u8_at s at) len) rest) type
+            gives rest type (before f t) =
+                let e : type ≡ u8_at s (at + 2) = sym (same_Some (u8_at s (at + 2)) type f) in
                 within z at (first_type rest ∙ ap (λ (n : ℕ). option at 53 n ∷ options53 rest) one ∙ ap (λ (k : List Item). option at 53 1 ∷ k) t) e (subst (λ (n : ℕ). 1 ≤ n) (sym e) least) (subst (λ (n : ℕ). n ≤ 8) (sym e) most)
-            gives rest type (within e p t v l m) = absurd (not-suc-le-zero (subst (λ (n : ℕ). 1 ≤ n) e least))
+            gives rest type (within e p t v l m) = absurd (none-some (u8_at s (at + 2)) (sym e))
 
-            from : (type : ℕ) → ListGives s (at + 2 + len) (u8_at s (at + 2)) type → ListGives s at seen type
+            from : (type : ℕ) → ListGives s (at + 2 + len) (Some (u8_at s (at + 2))) type → ListGives s at seen type
             from type g =
                 (item (option at (u8_at s at) len) g.0, before_it fits (subst (λ (n : ℕ). n ≤ 254) (sym is-53) (lit≤ tt)) g.0 g.1, gives g.0 type g.2)

@@ -20,17 +20,15 @@ use wire::dhcp::{
 // Document 01's limit: a message fills at most a packet of 1,500 bytes.
 const LONGEST: usize = 1472;
 
-// The type of the message that starts at `at` and runs to the end of the frame; 0 where it is none.
-pub fn read_message(frame: &[u8], at: usize) -> u8
+// The type of the message that starts at `at` and runs to the end of the frame.
+pub fn read_message(frame: &[u8], at: usize) -> Option<u8>
     ensures { MessageRead frame.now at result }
 {
-    if frame.len() < at {
-        return 0;
+    let message = frame.get(at..)?;
+    if !has_header(message) {
+        return None;
     }
-    if !has_header(&frame[at..]) {
-        return 0;
-    }
-    read_list(frame, at + FIXED, 0)
+    read_list(frame, at + FIXED, None)
 }
 
 // Whether what stands before the list is right, and the length of the whole message.
@@ -60,74 +58,66 @@ fn has_header(message: &[u8]) -> bool
     u32be(message, COOKIE) == MAGIC_COOKIE
 }
 
-// The message type by the list from `at` on, which runs to the end of the frame; an option 53 before it
-// said `seen`, 0 where there was none. 0 where there is no such list, or not one type.
+// The message type by the list from `at` on, which runs to the end of the frame; `seen` is what an option 53
+// before it said. None where there is no such list, or not one type.
 #[cycle(read_item_read_list)]
-fn read_list(frame: &[u8], at: usize, seen: u8) -> u8
+fn read_list(frame: &[u8], at: usize, seen: Option<u8>) -> Option<u8>
     requires { length frame.now ≤ at + 1232 }
     ensures { Listed frame.now at seen result }
 {
     if frame.len() <= at {
-        return 0;
+        return None;
     }
-    if byte_at(frame, at) != END {
+    if frame[at] != END {
         return read_item(frame, at, seen);
     }
-    if !zeros(frame, at + 1) {
-        return 0;
+    if !zeros(&frame[at + 1..]) {
+        return None;
     }
     seen
 }
 
 // The same where the list starts with an item.
 #[cycle(read_item_read_list)]
-fn read_item(frame: &[u8], at: usize, seen: u8) -> u8
+fn read_item(frame: &[u8], at: usize, seen: Option<u8>) -> Option<u8>
     requires inside { at < length frame.now }
     requires within_frame { length frame.now ≤ at + 1232 }
     requires not_end { u8_at frame.now at ≡ 255 → ⊥ }
     ensures { Listed frame.now at seen result }
 {
-    let code = byte_at(frame, at);
+    let code = frame[at];
     if code == PAD {
         return read_list(frame, at + 1, seen);
     }
     let left = frame.len() - at;
     if left < 2 {
-        return 0;
+        return None;
     }
-    let len = byte_at(frame, at + 1) as usize;
+    let len = usize::from(frame[at + 1]);
     if left - 2 < len {
-        return 0;
+        return None;
     }
     if code != MESSAGE_TYPE {
         return read_list(frame, at + 2 + len, seen);
     }
-    if seen != 0 {
-        return 0;
+    if seen.is_some() {
+        return None;
     }
     if len != 1 {
-        return 0;
+        return None;
     }
-    let value = byte_at(frame, at + 2);
+    let value = frame[at + 2];
     if value == 0 {
-        return 0;
+        return None;
     }
     if LAST_TYPE < value {
-        return 0;
+        return None;
     }
-    read_list(frame, at + 3, value)
+    read_list(frame, at + 3, Some(value))
 }
 
-// Whether all bytes from `from` on are 0.
-fn zeros(frame: &[u8], from: usize) -> bool
-    ensures { Tells result (AllZero (drop from frame.now)) }
+fn zeros(bytes: &[u8]) -> bool
+    ensures { Tells result (AllZero bytes.now) }
 {
-    let mut i = from;
-    while i < frame.len() {
-        if frame[i] != 0 {
-            return false;
-        }
-        i += 1;
-    }
-    true
+    bytes.iter().all(|byte| *byte == 0)
 }
