@@ -23,9 +23,5 @@ pub fn is_arp(packet: &[u8]) -> bool
     if byte_at(packet, arp::PROTOCOL_LENGTH) != arp::ADDRESS_LENGTH {
         return false;
     }
-    let operation = u16be(packet, arp::OPERATION);
-    if operation == arp::REQUEST {
-        return true;
-    }
-    operation == arp::REPLY
+    matches!(u16be(packet, arp::OPERATION), arp::REQUEST | arp::REPLY)
 }

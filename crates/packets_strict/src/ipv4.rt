@@ -17,7 +17,7 @@ pub fn is_ipv4(packet: &[u8]) -> bool
     if header < ipv4::HEADER {
         return false;
     }
-    let total = u16be(packet, ipv4::TOTAL_LENGTH) as usize;
+    let total = usize::from(u16be(packet, ipv4::TOTAL_LENGTH));
     if total != packet.len() {
         return false;
     }
@@ -27,8 +27,7 @@ pub fn is_ipv4(packet: &[u8]) -> bool
     if !is_unfragmented(packet) {
         return false;
     }
-    let bytes = &packet[..header];
-    sum(0, bytes) == ipv4::SUMS_RIGHT
+    sum(0, &packet[..header]) == ipv4::SUMS_RIGHT
 }
 
 // Whether the reserved bit is 0 and the packet no fragment.
