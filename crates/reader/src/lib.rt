@@ -12,108 +12,83 @@ mod parts;
 
 use dhcp_strict::read_message;
 use packets_strict::{carries_dhcp, is_arp, is_icmp, is_ipv4, is_tcp, is_udp};
-use parts::laid;
 pub use parts::{Layer, Reading};
 use wire::{dhcp, ethernet, icmp, ipv4, tcp, udp};
 
-// The parts of `frame`, or that it is outside the grammar.
-pub fn read(frame: &[u8]) -> Reading
+// The parts of `frame`; None: it is outside the grammar, verdict 8.
+pub fn read(frame: &[u8]) -> Option<Reading>
     ensures { Reads frame.now (report_of result) }
 {
-    let stop = frame.len();
-    if stop < ethernet::HEADER {
-        return Reading::Outside;
+    let packet = frame.get(ethernet::HEADER..)?;
+    match ethernet::eth_type(frame) {
+        ethernet::ARP if is_arp(packet) => Some(Reading::Arp {
+            ethernet: Layer::of(0, ethernet::HEADER, frame.len()),
+        }),
+        ethernet::IPV4 if is_ipv4(packet) => read_payload(frame),
+        _ => None,
     }
-    let kind = ethernet::eth_type(frame);
-    let packet = &frame[ethernet::HEADER..];
-    if kind == ethernet::ARP {
-        if !is_arp(packet) {
-            return Reading::Outside;
-        }
-        return Reading::Arp {
-            ethernet: laid(0, ethernet::HEADER, stop),
-        };
-    }
-    if kind != ethernet::IPV4 {
-        return Reading::Outside;
-    }
-    if !is_ipv4(packet) {
-        return Reading::Outside;
-    }
-    read_payload(frame)
 }
 
 // The same of a frame whose IPv4 header is right.
-fn read_payload(frame: &[u8]) -> Reading
+fn read_payload(frame: &[u8]) -> Option<Reading>
     requires { Framed frame.now }
     ensures { Reads frame.now (report_of result) }
 {
     let stop = frame.len();
     let packet = &frame[ethernet::HEADER..];
-    let start = ethernet::HEADER + ipv4::header_length(frame, ethernet::HEADER);
-    let ethernet = laid(0, ethernet::HEADER, stop);
-    let ip = laid(ethernet::HEADER, start, stop);
-    let protocol = ipv4::ip_proto(frame);
-    if protocol == ipv4::ICMP {
-        if !is_icmp(packet) {
-            return Reading::Outside;
-        }
-        let message = laid(start, start + icmp::HEADER, stop);
-        return Reading::Icmp {
+    let ethernet = Layer::of(0, ethernet::HEADER, stop);
+    let ip = Layer::of(
+        ethernet::HEADER,
+        ethernet::HEADER + ipv4::ip_hlen(frame),
+        stop,
+    );
+    match ipv4::ip_proto(frame) {
+        ipv4::ICMP => is_icmp(packet).then_some(Reading::Icmp {
             ethernet,
             ip,
-            message,
-        };
-    }
-    if protocol == ipv4::TCP {
-        if !is_tcp(packet) {
-            return Reading::Outside;
-        }
-        let header = tcp::header_length(&frame[start..]);
-        let segment = laid(start, start + header, stop);
-        return Reading::Tcp {
+            message: Layer::of(ip.payload, ip.payload + icmp::HEADER, stop),
+        }),
+        ipv4::TCP => is_tcp(packet).then_some(Reading::Tcp {
             ethernet,
             ip,
-            segment,
-        };
+            segment: Layer::of(
+                ip.payload,
+                ip.payload + tcp::header_length(&frame[ip.payload..]),
+                stop,
+            ),
+        }),
+        ipv4::UDP => read_datagram(frame, ethernet, ip),
+        _ => Some(Reading::OtherIpv4 { ethernet, ip }),
     }
-    if protocol == ipv4::UDP {
-        return read_datagram(frame, start, ethernet, ip);
-    }
-    Reading::OtherIpv4 { ethernet, ip }
 }
 
-// The same where the payload, which starts at `start`, is UDP, behind these two layers.
-fn read_datagram(frame: &[u8], start: usize, ethernet: Layer, ip: Layer) -> Reading
+// The same where the payload is UDP, behind these two layers.
+fn read_datagram(frame: &[u8], ethernet: Layer, ip: Layer) -> Option<Reading>
     requires framed { Framed frame.now }
     requires is_udp { protocol (body frame.now) ≡ 17 }
-    requires opened { Opened frame.now start ethernet ip }
+    requires opened { Opened frame.now ethernet ip }
     ensures { Reads frame.now (report_of result) }
 {
     let stop = frame.len();
     let packet = &frame[ethernet::HEADER..];
     if !is_udp(packet) {
-        return Reading::Outside;
+        return None;
     }
-    let data = start + udp::HEADER;
-    let datagram = laid(start, data, stop);
+    let data = ip.payload + udp::HEADER;
+    let datagram = Layer::of(ip.payload, data, stop);
     if !carries_dhcp(packet) {
-        return Reading::Udp {
+        return Some(Reading::Udp {
             ethernet,
             ip,
             datagram,
-        };
+        });
     }
-    let message_type = read_message(frame, data);
-    if message_type == 0 {
-        return Reading::Outside;
-    }
-    let message = laid(data, data + dhcp::FIXED, stop);
-    Reading::Dhcp {
+    let message_type = read_message(frame, data)?;
+    Some(Reading::Dhcp {
         ethernet,
         ip,
         datagram,
-        message,
+        message: Layer::of(data, data + dhcp::FIXED, stop),
         message_type,
-    }
+    })
 }

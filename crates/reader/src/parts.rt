@@ -3,14 +3,26 @@ ghost use Rattle.std.specs.Prelude.{◌≡◌};
 
 // A header runs from `header` to its payload, and the payload from `payload` up to, not including,
 // `stop`.
-#[derive(Clone, Copy)]
+#[derive(Clone, Copy, PartialEq, Eq)]
 pub struct Layer {
     pub header: usize,
     pub payload: usize,
     pub stop: usize,
 }
 
-#[derive(Clone, Copy)]
+impl Layer {
+    pub fn of(header: usize, payload: usize, stop: usize) -> Layer
+        ensures { result ≡ record { header = header; payload = payload; stop = stop } }
+    {
+        Layer {
+            header,
+            payload,
+            stop,
+        }
+    }
+}
+
+#[derive(Clone, Copy, PartialEq, Eq)]
 pub enum Reading {
     // The payload is the ARP packet.
     Arp {
@@ -43,17 +55,4 @@ pub enum Reading {
         ethernet: Layer,
         ip: Layer,
     },
-    // Verdict 8: outside the grammar.
-    Outside,
-}
-
-// A layer by its three places.
-pub fn laid(header: usize, payload: usize, stop: usize) -> Layer
-    ensures { result ≡ record { header = header; payload = payload; stop = stop } }
-{
-    Layer {
-        header,
-        payload,
-        stop,
-    }
 }

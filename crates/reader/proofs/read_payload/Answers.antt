@@ -1,81 +1,35 @@
 -- `read_payload` meets its contract: the laws of `Answers`, at the packet as the code takes it.
-use mathlib.Core.Bool.{not}
-use Prim.Native.Nat.{ℕ, ◌+◌, ◌*◌, ◌/◌}
-use mathlib.Core.Path.{ap, sym, ◌∙◌}
-use mathlib.Core.List.{List}
-use native.Mathlib.Omega.{arith}
+use Rattle.std.proofs.Common.{ℕ, ◌+◌, ◌*◌, ◌/◌, List, ap, sym, ◌∙◌, arith}
 use Rattle.base.specs.Bytes.{u8_at}
-use Rattle.base.proofs.Telling.{tells_not, tells_yes, rest_not, rest_yes}
-use Rattle.grammar.specs.Grammar.{ICMP, TCP}
-use Rattle.reader.specs.helpers.Opened.{Framed, Opened}
-use Rattle.reader.proofs.Answers.{tells-behind, stop_is, payload_is, opened, no_icmp, no_tcp, icmp-taken, tcp-taken, other-taken}
+use Rattle.grammar.specs.Grammar.{IPv4, ICMP, TCP}
+use Rattle.reader.proofs.Answers.{of_rest, to_rest, decided, payload_is, opened, no_icmp, no_tcp, icmp-taken, tcp-taken, other-taken}
 use Rattle.reader.proofs.read_payload.Goals as goal
 
-pub returns-then-not-is_icmp : goal.returns-then-not-is_icmp
-returns-then-not-is_icmp c =
-    let frame : List ℕ = c.args.frame.now in
-    let framed : Framed frame = c.requires in
-    no_icmp frame framed (sym c.ip_proto-protocol.ensures ∙ c.if-protocol-eq-ICMP.true) (rest_not ICMP 14 frame c.is_icmp.result c.is_icmp.ensures (ap not c.if-not-is_icmp.true))
+pub returns-in-1 : goal.returns-in-1
+returns-in-1 c =
+    let frame = c.args.frame.now in
+    let layers = opened frame c.requires _ _ _ (ap (λ (n : ℕ). 14 + n) c.ip_hlen.ensures) c.of-ethernet.ensures c.of-ip.ensures in
+    rw c.then_some.ensures
+    (decided frame c.is_icmp.result _ c.is_icmp.ensures
+    (λ m. icmp-taken frame c.requires _ _ layers (of_rest frame ICMP m) c.of.result c.of.ensures)
+    (λ f. no_icmp frame c.requires (sym c.ip_proto.ensures ∙ c.in-1.is) (λ m. f (to_rest frame ICMP m))))
 
-pub returns-then-protocol-eq-ICMP : goal.returns-then-protocol-eq-ICMP
-returns-then-protocol-eq-ICMP c =
-    let frame : List ℕ = c.args.frame.now in
-    let framed : Framed frame = c.requires in
-    let start : ℕ = 14 + c.header_length-start.result in
-    let layers : Opened frame start c.laid-ethernet.result c.laid-ip.result = opened frame framed start _ _ (ap (λ (n : ℕ). 14 + n) c.header_length-start.ensures.0) c.laid-ethernet.ensures c.laid-ip.ensures in
-    icmp-taken frame framed _ _ _ layers (rest_yes ICMP 14 frame c.is_icmp.result c.is_icmp.ensures (ap not c.if-not-is_icmp.false)) c.laid-message.result c.laid-message.ensures
+pub returns-in-6 : goal.returns-in-6
+returns-in-6 c =
+    let frame = c.args.frame.now in
+    let layers = opened frame c.requires _ _ _ (ap (λ (n : ℕ). 14 + n) c.ip_hlen.ensures) c.of-ethernet.ensures c.of-ip.ensures in
+    rw c.then_some-in-6.ensures
+    (decided frame c.is_tcp.result _ (c.is_tcp.ensures (to_rest frame IPv4 c.requires.ip))
+    (λ m. tcp-taken frame c.requires _ _ layers (of_rest frame TCP m) c.header_length.result
+    (c.header_length.ensures.0 ∙ ap (λ (b : List ℕ). u8_at b 12 / 16 * 4) (payload_is frame c.requires _ layers.starts)) c.of-in-6.result c.of-in-6.ensures)
+    (λ f. no_tcp frame c.requires (sym c.ip_proto.ensures ∙ c.in-6.is) (λ m. f (to_rest frame TCP m))))
 
-pub returns-then-not-is_tcp : goal.returns-then-not-is_tcp
-returns-then-not-is_tcp c =
-    let frame : List ℕ = c.args.frame.now in
-    let framed : Framed frame = c.requires in
-    no_tcp frame framed (sym c.ip_proto-protocol.ensures ∙ c.if-protocol-eq-TCP.true)
-    (tells_not c.is_tcp.result (tells-behind frame framed TCP c.is_tcp.result c.is_tcp.ensures) (ap not c.if-not-is_tcp.true))
-
-pub slice_bounds-header_length-count : goal.slice_bounds-header_length-count
-slice_bounds-header_length-count c =
-    let frame : List ℕ = c.args.frame.now in
-    let framed : Framed frame = c.requires in
-    let start : ℕ = 14 + c.header_length-start.result in
-    let layers : Opened frame start c.laid-ethernet.result c.laid-ip.result = opened frame framed start _ _ (ap (λ (n : ℕ). 14 + n) c.header_length-start.ensures.0) c.laid-ethernet.ensures c.laid-ip.ensures in
-    omega (arith, layers.starts, stop_is frame framed)
-
-pub slice_bounds-header_length-start : goal.slice_bounds-header_length-start
-slice_bounds-header_length-start c =
-    let frame : List ℕ = c.args.frame.now in
-    let framed : Framed frame = c.requires in
-    let start : ℕ = 14 + c.header_length-start.result in
-    let layers : Opened frame start c.laid-ethernet.result c.laid-ip.result = opened frame framed start _ _ (ap (λ (n : ℕ). 14 + n) c.header_length-start.ensures.0) c.laid-ethernet.ensures c.laid-ip.ensures in
-    omega (arith, layers.starts, stop_is frame framed)
-
-pub returns-then-protocol-eq-TCP : goal.returns-then-protocol-eq-TCP
-returns-then-protocol-eq-TCP c =
-    let frame : List ℕ = c.args.frame.now in
-    let framed : Framed frame = c.requires in
-    let start : ℕ = 14 + c.header_length-start.result in
-    let layers : Opened frame start c.laid-ethernet.result c.laid-ip.result = opened frame framed start _ _ (ap (λ (n : ℕ). 14 + n) c.header_length-start.ensures.0) c.laid-ethernet.ensures c.laid-ip.ensures in
-    let segment = payload_is frame framed start layers.starts in
-    tcp-taken frame framed _ _ _ layers
-    (tells_yes c.is_tcp.result (tells-behind frame framed TCP c.is_tcp.result c.is_tcp.ensures) (ap not c.if-not-is_tcp.false))
-    c.header_length-header.result (c.header_length-header.ensures.0 ∙ ap (λ (m : List ℕ). u8_at m 12 / 16 * 4) segment) c.laid-segment.result c.laid-segment.ensures
-
-pub read_datagram-requires : goal.read_datagram-requires
-read_datagram-requires c =
-    let frame : List ℕ = c.args.frame.now in
-    let framed : Framed frame = c.requires in
-    let start : ℕ = 14 + c.header_length-start.result in
-    let layers : Opened frame start c.laid-ethernet.result c.laid-ip.result = opened frame framed start _ _ (ap (λ (n : ℕ). 14 + n) c.header_length-start.ensures.0) c.laid-ethernet.ensures c.laid-ip.ensures in
-    record { framed = framed; is_udp = sym c.ip_proto-protocol.ensures ∙ c.if-protocol-eq-UDP.true; opened = layers }
-
-pub returns : goal.returns
-returns c =
-    let frame : List ℕ = c.args.frame.now in
-    let framed : Framed frame = c.requires in
-    let start : ℕ = 14 + c.header_length-start.result in
-    let layers : Opened frame start c.laid-ethernet.result c.laid-ip.result = opened frame framed start _ _ (ap (λ (n : ℕ). 14 + n) c.header_length-start.ensures.0) c.laid-ethernet.ensures c.laid-ip.ensures in
-    other-taken frame framed _ _ _ layers
+pub returns-in_default : goal.returns-in_default
+returns-in_default c =
+    let frame = c.args.frame.now in
+    other-taken frame c.requires _ _ (opened frame c.requires _ _ _ (ap (λ (n : ℕ). 14 + n) c.ip_hlen.ensures) c.of-ethernet.ensures c.of-ip.ensures)
     (record {
-      no_icmp = λ e. c.if-protocol-eq-ICMP.false (c.ip_proto-protocol.ensures ∙ e);
-      no_tcp = λ e. c.if-protocol-eq-TCP.false (c.ip_proto-protocol.ensures ∙ e);
-      no_udp = λ e. c.if-protocol-eq-UDP.false (c.ip_proto-protocol.ensures ∙ e);
+      no_icmp = λ e. omega arith;
+      no_tcp = λ e. omega arith;
+      no_udp = λ e. omega arith;
     })

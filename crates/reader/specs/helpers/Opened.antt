@@ -10,7 +10,7 @@ pub record Framed (frame : List ℕ) : Type 0 where
   pub ip : IPv4 (body frame)
 
 -- where its payload starts, and its two outer layers
-pub record Opened (frame : List ℕ) (start : ℕ) (ethernet ip : Parts-as-Layer) : Type 0 where
-  pub starts : start ≡ payload_at_lem frame
+pub record Opened (frame : List ℕ) (ethernet ip : Parts-as-Layer) : Type 0 where
+  pub starts : ip.payload ≡ payload_at_lem frame
   pub ethernet_is : layer_of ethernet ≡ ethernet_layer frame
   pub ip_is : layer_of ip ≡ ip_layer frame
