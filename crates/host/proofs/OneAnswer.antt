@@ -19,9 +19,10 @@ use Rattle.grammar.specs.Report.{Report, arp_kind, icmp_kind, udp_kind, dhcp_kin
 use Rattle.host.specs.Parts.{Reported, kind_number, number_of, places, places_of}
 use Rattle.host.specs.Exported.{Built, Sent, Told}
 use Rattle.verdict_numbers.specs.Numbers.{padded}
+use Rattle.std.proofs.Common.{Option, Some, None}
 use Rattle.reader.specs.Reported.{report_of}
 use Rattle.reader.specs.declared.parts.Reading.{Reading}
-use Rattle.reader.specs.declared.parts.Reading.TheVariants.{Arp, Icmp, Udp, Dhcp, Tcp as Reading-as-Tcp, OtherIpv4, Outside}
+use Rattle.reader.specs.declared.parts.Reading.TheVariants.{Arp, Icmp, Udp, Dhcp, Tcp as Reading-as-Tcp, OtherIpv4}
 use Rattle.rules.proofs.Settled.{outcome_settled}
 use Rattle.rules.specs.Rules.{outcome}
 
@@ -56,15 +57,15 @@ report_back n ps =
     (cond (eqb n 6) (parts other_ipv4_kind (layer_at ps 0 ∷ layer_at ps 3 ∷ []) []) (refused n))))))
 
 -- what `read` answers is there in what C is told of it
-pub report_back_lem : (before : List ℕ) (r : Reading) → report_back (number_of (report_of r)) (places_of before (report_of r)) ≡ report_of r
+pub report_back_lem : (before : List ℕ) (r : Option Reading) → report_back (number_of (report_of r)) (places_of before (report_of r)) ≡ report_of r
 unfolding report_back report_of number_of kind_number places_of places
-report_back_lem before (Arp ethernet) = refl
-report_back_lem before (Icmp ethernet ip message) = refl
-report_back_lem before (Udp ethernet ip datagram) = refl
-report_back_lem before (Dhcp ethernet ip datagram message type) = refl
-report_back_lem before (Reading-as-Tcp ethernet ip segment) = refl
-report_back_lem before (OtherIpv4 ethernet ip) = refl
-report_back_lem before Outside = refl
+report_back_lem before (Some (Arp ethernet)) = refl
+report_back_lem before (Some (Icmp ethernet ip message)) = refl
+report_back_lem before (Some (Udp ethernet ip datagram)) = refl
+report_back_lem before (Some (Dhcp ethernet ip datagram message type)) = refl
+report_back_lem before (Some (Reading-as-Tcp ethernet ip segment)) = refl
+report_back_lem before (Some (OtherIpv4 ethernet ip)) = refl
+report_back_lem before None = refl
 
 -- Two answers of `send`.
 pub send_answers_once : (guest : Guest) (frame before after after' : List ℕ) (v v' : Verdict) (g g' : Guest)

@@ -14,6 +14,7 @@ use Rattle.grammar.specs.Report.{Reads}
 use Rattle.host.specs.Parts.{Reported, number_of, places_of}
 use Rattle.host.specs.Exported.{Built, Told}
 use Rattle.verdict_numbers.specs.Numbers.{padded}
+use Rattle.std.proofs.Common.{Option}
 use Rattle.reader.specs.Reported.{report_of}
 use Rattle.reader.specs.declared.parts.Reading.{Reading}
 
@@ -50,7 +51,7 @@ built_of limit len need room image used lent e meets told stored =
       id = λ guest same. stored ∙ ap (λ (g : Guest). g.id) meets.guest ∙ id_after (ltb limit len) (ltb room need) used guest (same ∙ sym e);
     }
 
-pub reported_of : {frame before after : List ℕ} {answer : ℕ} {r s : Reading}
+pub reported_of : {frame before after : List ℕ} {answer : ℕ} {r s : Option Reading}
     → Reads frame (report_of r) → r ≡ s → answer ≡ number_of (report_of s) → after ≡ places_of before (report_of s) → Reported frame before after answer
 reported_of {frame = frame} {s = s} reads e number places =
     record { report = report_of s; reads = rw (sym e) reads; number = number; parts = places }

@@ -5,6 +5,7 @@ ghost use Rattle.reader.specs.Reported.{layer_of};
 
 use reader::{Layer, Reading, read};
 
+// C's thirteen places have room for four layers, and zeros where there are fewer.
 const ABSENT: Layer = Layer {
     header: 0,
     payload: 0,
@@ -19,31 +20,33 @@ pub extern "C" fn yavoledu_read(frame: &[u8], parts: &mut [usize; 13]) -> u32
     ensures { Reported frame.now parts.old parts.new result }
 {
     match read(frame) {
-        Reading::Arp { ethernet } => lay(1, ethernet, ABSENT, ABSENT, ABSENT, 0, parts),
-        Reading::Icmp {
+        Some(Reading::Arp { ethernet }) => lay(1, ethernet, ABSENT, ABSENT, ABSENT, 0, parts),
+        Some(Reading::Icmp {
             ethernet,
             ip,
             message,
-        } => lay(2, ethernet, ip, message, ABSENT, 0, parts),
-        Reading::Udp {
+        }) => lay(2, ethernet, ip, message, ABSENT, 0, parts),
+        Some(Reading::Udp {
             ethernet,
             ip,
             datagram,
-        } => lay(3, ethernet, ip, datagram, ABSENT, 0, parts),
-        Reading::Dhcp {
+        }) => lay(3, ethernet, ip, datagram, ABSENT, 0, parts),
+        Some(Reading::Dhcp {
             ethernet,
             ip,
             datagram,
             message,
             message_type,
-        } => lay(4, ethernet, ip, datagram, message, message_type, parts),
-        Reading::Tcp {
+        }) => lay(4, ethernet, ip, datagram, message, message_type, parts),
+        Some(Reading::Tcp {
             ethernet,
             ip,
             segment,
-        } => lay(5, ethernet, ip, segment, ABSENT, 0, parts),
-        Reading::OtherIpv4 { ethernet, ip } => lay(6, ethernet, ip, ABSENT, ABSENT, 0, parts),
-        Reading::Outside => OUTSIDE,
+        }) => lay(5, ethernet, ip, segment, ABSENT, 0, parts),
+        Some(Reading::OtherIpv4 { ethernet, ip }) => {
+            lay(6, ethernet, ip, ABSENT, ABSENT, 0, parts)
+        }
+        None => OUTSIDE,
     }
 }
 

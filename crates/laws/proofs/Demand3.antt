@@ -17,6 +17,7 @@ use Rattle.datagrams.proofs.InBuffer.{datagram_in_buffer}
 use Rattle.frames.proofs.InBuffer.{ip_frame_in_buffer, ip_frame_in_place_in_buffer}
 use Rattle.grammar.specs.Grammar.{body, Derivation, Derives}
 use Rattle.grammar.specs.Report.{refused, parts_of, Reads}
+use Rattle.std.proofs.Common.{Option}
 use Rattle.reader.specs.Reported.{report_of}
 use Rattle.reader.specs.declared.parts.Reading.{Reading}
 use Rattle.grammar.proofs.Exact.{parts_reported, derivation_behind, derived_taken, underived_refused}
@@ -33,12 +34,12 @@ use Rattle.laws.proofs.DerivedIp.{Packet, packet_in_buffer}
 use Rattle.laws.proofs.DerivedReplies.{built_derived, some_derivation}
 
 -- "An added strict reader accepts a byte string exactly when document 01's frame grammar derives it."
-pub accepts_exactly : (s : List ℕ) (r : Reading) → Reads s (report_of r) → ((report_of r ≡ refused 8 → ⊥) ↔ ((d : Derivation) × Derives s d))
+pub accepts_exactly : (s : List ℕ) (r : Option Reading) → Reads s (report_of r) → ((report_of r ≡ refused 8 → ⊥) ↔ ((d : Derivation) × Derives s d))
 accepts_exactly s r kept =
     ((λ f. let b = derivation_behind s (report_of r) kept f in (b.0, b.1)), (λ h. derived_taken s (report_of r) kept h.0 h.1))
 
 -- and it answers 8 exactly when the grammar doesn't
-pub refuses_exactly : (s : List ℕ) (r : Reading) → Reads s (report_of r) → ((report_of r ≡ refused 8) ↔ ((d : Derivation) → Derives s d → ⊥))
+pub refuses_exactly : (s : List ℕ) (r : Option Reading) → Reads s (report_of r) → ((report_of r ≡ refused 8) ↔ ((d : Derivation) → Derives s d → ⊥))
 refuses_exactly s r kept = ((λ e d h. derived_taken s (report_of r) kept d h e), underived_refused s (report_of r) kept)
 
 -- "The derivation is the only one"
@@ -46,7 +47,7 @@ pub only_derivation : (s : List ℕ) (d e : Derivation) → Derives s d → Deri
 only_derivation s d e h k = unique s d e h k
 
 -- "and the reported parts are its parts."
-pub reports_its_parts : (s : List ℕ) (r : Reading) → Reads s (report_of r) → (d : Derivation) → Derives s d → report_of r ≡ parts_of s d
+pub reports_its_parts : (s : List ℕ) (r : Option Reading) → Reads s (report_of r) → (d : Derivation) → Derives s d → report_of r ≡ parts_of s d
 reports_its_parts s r kept d h = parts_reported s (report_of r) kept d h
 
 -- "Every reply to a guest frame, like every TCP frame built, is derived by the grammar.": after the answer 1 with n the reply is the first n bytes of the buffer.
@@ -65,7 +66,7 @@ module _ (guest : Guest) (frame before after : List ℕ) (answer : Answer) (n : 
   reply_in_grammar = some_derivation n (take n after) (decision guest.network frame) reply_derived
 
   -- so the strict reader takes each
-  pub reply_taken : (r : Reading) → Reads (take n after) (report_of r) → report_of r ≡ refused 8 → ⊥
+  pub reply_taken : (r : Option Reading) → Reads (take n after) (report_of r) → report_of r ≡ refused 8 → ⊥
   reply_taken r kept = (accepts_exactly (take n after) r kept).1 reply_in_grammar
 
 -- Every frame of `make_tcp_frame`, with options and without: TCP.

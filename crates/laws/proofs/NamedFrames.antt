@@ -7,6 +7,7 @@ use native.Mathlib.Omega.{arith}
 use lib.ListN.{take}
 use Rattle.grammar.specs.Grammar.{Derivation, laid, Derives}
 use Rattle.grammar.specs.Report.{parts, refused, parts_of, Reads, icmp_kind}
+use Rattle.std.proofs.Common.{Option}
 use Rattle.reader.specs.Reported.{report_of}
 use Rattle.reader.specs.declared.parts.Reading.{Reading}
 use Rattle.grammar.proofs.Unique.{arp_or_ipv4}
@@ -32,11 +33,11 @@ unfolding SumsRight total words sum fold
 ping_outside d x = elim (arp_or_ipv4 ping d x) [ inl a ↦ omega arith | inr i ↦ omega arith ]
 
 -- so the reader neither takes all nor refuses all: whatever keeps its promise takes the one, with these parts, and refuses the other
-pub pong_read : (r : Reading) → Reads pong (report_of r) → report_of r ≡ parts icmp_kind (laid 0 14 42 ∷ laid 14 34 42 ∷ laid 34 42 42 ∷ []) []
+pub pong_read : (r : Option Reading) → Reads pong (report_of r) → report_of r ≡ parts icmp_kind (laid 0 14 42 ∷ laid 14 34 42 ∷ laid 34 42 42 ∷ []) []
 unfolding parts_of
 pong_read r kept = reports_its_parts pong r kept (icmp_derivation 42) pong_derived
 
-pub ping_refused : (r : Reading) → Reads ping (report_of r) → report_of r ≡ refused 8
+pub ping_refused : (r : Option Reading) → Reads ping (report_of r) → report_of r ≡ refused 8
 ping_refused r kept = (refuses_exactly ping r kept).1 ping_outside
 
 -- "41-byte ARP"

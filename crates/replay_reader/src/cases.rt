@@ -57,7 +57,7 @@ fn compare(line: &[u8], kind: u8, end: usize) -> Case
     let mut space = vectors::clear_space();
     let frame = vectors::front(&mut space, len);
     base::put(frame, 0, written);
-    outcome(line, expected::is_expected(line, kind, reader::read(frame)))
+    outcome(line, reader::read(frame) == expected::reading(line, kind))
 }
 
 fn outcome(line: &[u8], agrees: bool) -> Case {

@@ -40,50 +40,46 @@ pub fn end(kind: u8) -> usize
     }
 }
 
-pub fn is_expected(line: &[u8], kind: u8, reading: Reading) -> bool {
-    match reading {
-        Reading::Arp { ethernet } => (kind == ARP) & is_layer(line, 0, ethernet),
-        Reading::Icmp {
+// What the reader is to answer.
+pub fn reading(line: &[u8], kind: u8) -> Option<Reading> {
+    let ethernet = layer(line, 0);
+    let ip = layer(line, 1);
+    match kind {
+        ARP => Some(Reading::Arp { ethernet }),
+        ICMP => Some(Reading::Icmp {
             ethernet,
             ip,
-            message,
-        } => (kind == ICMP) & are_layers(line, ethernet, ip, message),
-        Reading::Udp {
+            message: layer(line, 2),
+        }),
+        UDP => Some(Reading::Udp {
             ethernet,
             ip,
-            datagram,
-        } => (kind == UDP) & are_layers(line, ethernet, ip, datagram),
-        Reading::Dhcp {
+            datagram: layer(line, 2),
+        }),
+        DHCP => Some(Reading::Dhcp {
             ethernet,
             ip,
-            datagram,
-            message,
-            message_type,
-        } => (kind == DHCP)
-            & are_layers(line, ethernet, ip, datagram)
-            & is_layer(line, 3, message)
-            & (byte_at(line, TYPE_AT) == message_type),
-        Reading::Tcp {
+            datagram: layer(line, 2),
+            message: layer(line, 3),
+            message_type: byte_at(line, TYPE_AT),
+        }),
+        TCP => Some(Reading::Tcp {
             ethernet,
             ip,
-            segment,
-        } => (kind == TCP) & are_layers(line, ethernet, ip, segment),
-        Reading::OtherIpv4 { ethernet, ip } => (kind == OTHER_IPV4)
-            & is_layer(line, 0, ethernet)
-            & is_layer(line, 1, ip),
-        Reading::Outside => kind == OUTSIDE,
+            segment: layer(line, 2),
+        }),
+        OTHER_IPV4 => Some(Reading::OtherIpv4 { ethernet, ip }),
+        _ => None,
     }
 }
 
-fn are_layers(line: &[u8], first: Layer, second: Layer, third: Layer) -> bool {
-    is_layer(line, 0, first) & is_layer(line, 1, second) & is_layer(line, 2, third)
-}
-
-fn is_layer(line: &[u8], number: usize, layer: Layer) -> bool
+fn layer(line: &[u8], number: usize) -> Layer
     requires { number < 4 }
 {
     let at = LAYERS_AT + number * LAYER_SIZE;
-    (u32be(line, at) as usize == layer.header)
-        & (u32be(line, at + 4) as usize == layer.payload)
-        & (u32be(line, at + 8) as usize == layer.stop)
+    Layer::of(
+        u32be(line, at) as usize,
+        u32be(line, at + 4) as usize,
+        u32be(line, at + 8) as usize,
+    )
 }
