@@ -32,21 +32,12 @@ pub fn is_good(gateway: u32, guest: u32, mask: u32) -> bool
     if !is_between(gateway & !mask, !mask) {
         return false;
     }
-    if !is_between(guest & !mask, !mask) {
-        return false;
-    }
-    true
+    is_between(guest & !mask, !mask)
 }
 
 // Whether a place in a network is neither its lowest nor its highest.
 fn is_between(place: u32, highest: u32) -> bool
     ensures { Tells result (Between place highest) }
 {
-    if place == 0 {
-        return false;
-    }
-    if place == highest {
-        return false;
-    }
-    true
+    place != 0 && place != highest
 }
