@@ -8,22 +8,21 @@ use record::{Answer, Guest, Verdict};
 use rules::{Decision, decide};
 
 // What a frame of this guest gets, on the network of its record.
+#[tactic(auto, unfolding(rules::specs::Rules::outcome, rules::specs::Rules::outcome_of, record::specs::Answer::paper))]
 pub fn handle(guest: Guest, frame: &[u8], reply: &mut [u8]) -> Answer
     ensures { Meets
         (outcome guest frame.now (length reply.old))
         reply.old reply.new result }
 {
-    let network = guest.network;
-    match decide(network, frame) {
-        Decision::Drop => guest.answer(Verdict::Drop),
-        Decision::DropNoting(xid) => guest.note(xid).answer(Verdict::Drop),
-        Decision::ArpReply => handle_arp(guest, frame, reply),
-        Decision::EchoReply { start } => handle_icmp(guest, frame, start, reply),
-        Decision::DhcpReply { xid, kind } => handle_dhcp(guest, frame, xid, kind, reply),
-        Decision::Dns { start, len } => guest.answer(Verdict::Dns { start, len }),
-        Decision::Relay { start, len } => guest.answer(Verdict::Relay { start, len }),
-        Decision::Tcp(len) => guest.answer(Verdict::Tcp(len)),
-        Decision::TooLong(len) => guest.answer(Verdict::TooLong(len)),
-        Decision::CutType(place) => guest.answer(Verdict::CutType(place)),
+    match decide(guest.network, frame) {
+        Ok(Decision::Drop) => guest.answer(Ok(Verdict::Drop)),
+        Ok(Decision::DropNoting(xid)) => guest.note(xid).answer(Ok(Verdict::Drop)),
+        Ok(Decision::ArpReply) => handle_arp(guest, frame, reply),
+        Ok(Decision::EchoReply { start }) => handle_icmp(guest, frame, start, reply),
+        Ok(Decision::DhcpReply { xid, kind }) => handle_dhcp(guest, frame, xid, kind, reply),
+        Ok(Decision::Dns { start, len }) => guest.answer(Ok(Verdict::Dns { start, len })),
+        Ok(Decision::Relay { start, len }) => guest.answer(Ok(Verdict::Relay { start, len })),
+        Ok(Decision::Tcp(len)) => guest.answer(Ok(Verdict::Tcp(len))),
+        Err(refusal) => guest.answer(Err(refusal)),
     }
 }

@@ -10,8 +10,7 @@ ghost use Rattle.record.specs.Guest.{noting, spent};
 use arp_reply::put_arp_reply;
 use dhcp_reply::put_dhcp_reply;
 use echo_reply::{MESSAGE_AT, put_echo_reply};
-use record::{Answer, Guest, Verdict};
-use rules::payload_length;
+use record::{Answer, Guest, Refusal, Verdict};
 use wire::bytes::bytes_at;
 use wire::ethernet::eth_src;
 use wire::ipv4::ip_src;
@@ -23,13 +22,14 @@ const SENDER_MAC: usize = ethernet::HEADER + arp::SENDER_MAC;
 const SENDER_IP: usize = ethernet::HEADER + arp::SENDER_IP;
 
 // To whom the request says has sent it.
+#[tactic(auto, unfolding(record::specs::Answer::framing, record::specs::Answer::paper))]
 pub fn handle_arp(guest: Guest, frame: &[u8], reply: &mut [u8]) -> Answer
     ensures { Meets
         (framing guest guest 42 (length reply.old) (arp_reply_lem guest.network frame.now))
         reply.old reply.new result }
 {
     if reply.len() < arp_reply::FRAME {
-        return guest.answer(Verdict::NoRoom(arp_reply::FRAME));
+        return guest.answer(Err(Refusal::NoRoom(arp_reply::FRAME)));
     }
     let network = guest.network;
     let gateway = network.gateway;
@@ -39,10 +39,11 @@ pub fn handle_arp(guest: Guest, frame: &[u8], reply: &mut [u8]) -> Answer
         bytes_at(frame, SENDER_IP),
         reply,
     );
-    guest.answer(Verdict::Reply(arp_reply::FRAME))
+    guest.answer(Ok(Verdict::Reply(arp_reply::FRAME)))
 }
 
 // The echo of what lies from `start` to the end of the frame.
+#[tactic(auto, unfolding(record::specs::Answer::framing, record::specs::Answer::paper))]
 pub fn handle_icmp(guest: Guest, frame: &[u8], start: usize, reply: &mut [u8]) -> Answer
     requires start_in_bounds { start + 4 ≤ length frame.now }
     requires frame_len_bound { length frame.now ≤ start + 65515 }
@@ -51,9 +52,10 @@ pub fn handle_icmp(guest: Guest, frame: &[u8], start: usize, reply: &mut [u8]) -
         (echo_frame guest frame.now start))
         reply.old reply.new result }
 {
-    let need = MESSAGE_AT + payload_length(frame, start);
+    let request = &frame[start..];
+    let need = MESSAGE_AT + request.len();
     if reply.len() < need {
-        return guest.answer(Verdict::NoRoom(need));
+        return guest.answer(Err(Refusal::NoRoom(need)));
     }
     let network = guest.network;
     let gateway = network.gateway;
@@ -62,20 +64,21 @@ pub fn handle_icmp(guest: Guest, frame: &[u8], start: usize, reply: &mut [u8]) -
         guest.id,
         gateway,
         ip_src(frame),
-        &frame[start..],
+        request,
         reply,
     );
-    guest.spend().answer(Verdict::Reply(need))
+    guest.spend().answer(Ok(Verdict::Reply(need)))
 }
 
 // A reply of type `kind` to the message whose xid is `xid`, in `frame`.
+#[tactic(auto, unfolding(record::specs::Answer::framing, record::specs::Answer::paper))]
 pub fn handle_dhcp(guest: Guest, frame: &[u8], xid: u32, kind: u8, reply: &mut [u8]) -> Answer
     ensures { Meets
         (framing guest (spent (noting xid guest)) 342 (length reply.old) (dhcp_frame guest frame.now xid kind))
         reply.old reply.new result }
 {
     if reply.len() < dhcp_reply::FRAME {
-        return guest.answer(Verdict::NoRoom(dhcp_reply::FRAME));
+        return guest.answer(Err(Refusal::NoRoom(dhcp_reply::FRAME)));
     }
     let network = guest.network;
     let mac = guest.mac;
@@ -83,5 +86,5 @@ pub fn handle_dhcp(guest: Guest, frame: &[u8], xid: u32, kind: u8, reply: &mut [
     guest
         .note(xid)
         .spend()
-        .answer(Verdict::Reply(dhcp_reply::FRAME))
+        .answer(Ok(Verdict::Reply(dhcp_reply::FRAME)))
 }

@@ -7,14 +7,11 @@ use lib.Seq.{get_or-drop}
 use Rattle.arp_reply.proofs.Lengths.{length_reply_to}
 use Rattle.arp_reply.specs.Reply.{reply_to}
 use Rattle.base.specs.Buffer.{put_if_fits}
-use Rattle.slirp.proofs.Framing.{too_small, large_enough}
+use Rattle.slirp.proofs.Framing.{large_enough}
 use Rattle.wire.specs.Rfc826.{sender_mac_lem, sender_address}
 use Rattle.wire.specs.Rfc894.{body}
 use borrow.Author.Rules.{rules}
 use Rattle.slirp.proofs.replies.handle_arp.Goals as goal
-
-pub returns-then-reply-lt-FRAME : goal.returns-then-reply-lt-FRAME
-returns-then-reply-lt-FRAME c = rw c.answer.ensures (too_small _ _ 42 _ _ 42 refl c.if-reply-lt-FRAME.true)
 
 pub returns : goal.returns
 returns c =

@@ -7,13 +7,10 @@ use Rattle.base.specs.Buffer.{put_if_fits}
 use Rattle.dhcp_reply.proofs.FramePieces.{length_dhcp_frame_to}
 use Rattle.dhcp_reply.specs.Reply.{dhcp_frame_to}
 use Rattle.record.specs.Network.{FourBytes}
-use Rattle.slirp.proofs.Framing.{too_small, large_enough}
+use Rattle.slirp.proofs.Framing.{large_enough}
 use Rattle.wire.specs.Rfc894.{source_mac}
 use borrow.Author.Rules.{rules}
 use Rattle.slirp.proofs.replies.handle_dhcp.Goals as goal
-
-pub returns-then-reply-lt-FRAME : goal.returns-then-reply-lt-FRAME
-returns-then-reply-lt-FRAME c = rw c.answer.ensures (too_small _ _ 342 _ _ 342 refl c.if-reply-lt-FRAME.true)
 
 pub returns : goal.returns
 returns c =
