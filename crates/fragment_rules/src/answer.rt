@@ -24,11 +24,11 @@ pub enum Answer {
     Released,
 }
 
-// Its refusals, 10 to 13.
+// Its refusals, by their numbers.
 #[derive(Clone, Copy, PartialEq, Eq)]
 pub enum Refusal {
-    Unfit,
-    Held,
-    Overlap,
-    WrongEnd,
+    Unfit = 10,
+    Held = 11,
+    Overlap = 12,
+    WrongEnd = 13,
 }

@@ -4,6 +4,7 @@ ghost use Rattle.host.specs.Reassembly.{Took, Freed};
 use fragments::{release, take};
 use store_words::{place, report, state_of};
 
+#[tactic(auto, using(crate::proofs::Reassembling::took_of))]
 #[unsafe(no_mangle)]
 pub extern "C" fn yavoledu_take(
     state: &mut [u32; 6],
@@ -20,6 +21,7 @@ pub extern "C" fn yavoledu_take(
     report(taken, state)
 }
 
+#[tactic(auto, using(crate::proofs::Reassembling::freed_of))]
 #[unsafe(no_mangle)]
 pub extern "C" fn yavoledu_release(state: &mut [u32; 6], bytes: &[u8], bits: &mut [u64]) -> u32
     ensures { Freed state.old bytes.now bits.old state.new bits.new result }

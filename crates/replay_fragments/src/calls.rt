@@ -1,20 +1,24 @@
-// One call: a frame is taken or the store is released, and all that can be seen of it is compared. Tests
-// are joined by `&`: each `&&` would be a branch, and more to prove.
-use crate::{compared, spaces};
-use fragments::{State, Taken};
+// One call: a frame is taken or the store is released, and all that can be seen of it is compared.
+ghost use Rattle.std.specs.Prelude.{◌≤◌};
 
-// What is expected of a call, and how the store is lent to it.
-#[derive(Clone, Copy)]
-pub struct Wanted {
-    pub release: bool,
-    pub lent: u16,
-    pub answer: u8,
+use fragments::{Answer, Refusal, State, Taken};
+
+// A store of the largest size that is lent, and its state.
+#[derive(Drop)]
+pub struct Store<'a> {
+    pub state: State,
+    pub bytes: &'a mut [u8],
+    pub bits: [u64; 129],
 }
 
+// The frame that is to be taken, or None for a release; at which size the store is lent; and what is to be
+// answered and handed out.
 #[derive(Clone, Copy)]
-pub struct Outcome {
-    pub state: State,
-    pub agrees: bool,
+pub struct Call<'a> {
+    pub frame: Option<&'a [u8]>,
+    pub lent: u16,
+    pub answer: u8,
+    pub payload: &'a [u8],
 }
 
 // Answers that may change the store; with every other it has to stay as it was.
@@ -22,102 +26,89 @@ const STORED: u8 = 1;
 
 const COMPLETE: u8 = 2;
 
-const RELEASED: u8 = 3;
+pub const RELEASED: u8 = 3;
+
+const STORE_BYTES: usize = 65515;
 
 const STORE_WORDS: usize = 128;
 
-// The call, and what it may not change.
-pub fn called(
-    state: State,
-    wanted: Wanted,
-    frame: &[u8],
-    payload: &[u8],
-    bytes: &mut [u8],
-    bits: &mut [u64],
-) -> Outcome {
-    let mut space = vectors::clear_space();
-    let mut old_bits = spaces::clear_bits();
-    let old_bytes = vectors::front(&mut space, bytes.len());
-    base::put(old_bytes, 0, bytes);
-    compared::keep_words(bits, &mut old_bits);
-    let call = compared_call(state, wanted, frame, payload, bytes, bits);
-    let after = call.state;
-    let kept = (*bytes == *old_bytes) & is_kept(wanted.answer, state, after, bits, &old_bits);
-    Outcome {
-        state: after,
-        agrees: call.agrees & (may_change(wanted.answer) | kept),
+impl<'a> Store<'a> {
+    // Makes the call: whether it is answered as it is to be, and leaves what it may not change.
+    pub fn call(&mut self, call: Call<'_>) -> bool {
+        let mut space = vectors::clear_space();
+        let old_bytes = vectors::front(&mut space, self.bytes.len());
+        base::put(old_bytes, 0, self.bytes);
+        let old_bits = self.bits;
+        let old_state = self.state;
+        let agrees = self.answers(call);
+        agrees && self.is_kept(call.answer, old_state, old_bytes, &old_bits)
+    }
+
+    // Whether the answer and the payload handed out are the expected ones.
+    fn answers(&mut self, call: Call<'_>) -> bool {
+        let bytes = vectors::front(self.bytes, bytes_lent(call.lent));
+        let words = &mut self.bits[..];
+        let bits = &mut words[..words_lent(call.lent)];
+        match call.frame {
+            Some(frame) => {
+                let taken = fragments::take(self.state, frame, bytes, bits);
+                self.state = taken.state;
+                is_told(call, taken, frame, bytes)
+            }
+            None => {
+                let taken = fragments::release(self.state, bytes, bits);
+                self.state = taken.state;
+                is_told(call, taken, b"", bytes)
+            }
+        }
+    }
+
+    // Whether the store is what the answer says: empty behind a release, and else as it was. The word
+    // behind the store's last is not its own.
+    fn is_kept(&self, answer: u8, state: State, bytes: &[u8], bits: &[u64; 129]) -> bool {
+        match answer {
+            STORED | COMPLETE => true,
+            RELEASED => {
+                *self.bytes == *bytes
+                    && self.state == State::Empty
+                    && self.bits[..STORE_WORDS].iter().all(|word| *word == 0)
+            }
+            _ => *self.bytes == *bytes && self.state == state && self.bits == *bits,
+        }
     }
 }
 
-fn may_change(answer: u8) -> bool {
-    (answer == STORED) | (answer == COMPLETE)
+// Whether the call's answer and payload are what came of it.
+fn is_told(call: Call<'_>, taken: Taken, frame: &[u8], bytes: &[u8]) -> bool {
+    let payload = fragments::payload(taken, frame, bytes);
+    number_of(taken.answer) == call.answer && *payload == *call.payload
 }
 
-// Whether state and bits are what the answer says: those of an empty store behind a release, and else
-// those from before. The word behind the store's last is not its own.
-fn is_kept(answer: u8, state: State, after: State, bits: &[u64], old_bits: &[u64]) -> bool {
-    if answer == RELEASED {
-        let clear = spaces::clear_bits();
-        return compared::is_same_state(after, State::Empty)
-            & compared::are_same_words(bits, &clear, STORE_WORDS);
+// An answer by its place among the answers, a refusal by its number.
+fn number_of(answer: Result<Answer, Refusal>) -> u8 {
+    match answer {
+        Ok(answer) => answer as u8,
+        Err(refusal) => refusal as u8,
     }
-    compared::is_same_state(after, state) & compared::are_same_words(bits, old_bits, bits.len())
-}
-
-// The answer and the payload handed out are the expected ones.
-fn compared_call(
-    state: State,
-    wanted: Wanted,
-    frame: &[u8],
-    payload: &[u8],
-    bytes: &mut [u8],
-    bits: &mut [u64],
-) -> Outcome {
-    let lent = vectors::front(bytes, bytes_lent(wanted.lent));
-    let lent_bits = front_words(bits, words_lent(wanted.lent));
-    let taken = asked(state, wanted.release, frame, lent, lent_bits);
-    let handed_out = fragments::payload(taken, frame, lent);
-    let same_payload = handed_out == payload;
-    let answer = taken.answer;
-    let after = taken.state;
-    Outcome {
-        state: after,
-        agrees: (compared::number_of(answer) == wanted.answer) & same_payload,
-    }
-}
-
-fn asked(state: State, release: bool, frame: &[u8], bytes: &mut [u8], bits: &mut [u64]) -> Taken {
-    if release {
-        return fragments::release(state, bytes, bits);
-    }
-    fragments::take(state, frame, bytes, bits)
 }
 
 // How many bytes of the store are lent.
 fn bytes_lent(lent: u16) -> usize {
     match lent {
-        1 => 65514,
-        2 => 65516,
-        5 => 0,
-        7 => 0,
-        _ => 65515,
+        1 => STORE_BYTES - 1,
+        2 => STORE_BYTES + 1,
+        5 | 7 => 0,
+        _ => STORE_BYTES,
     }
 }
 
-fn words_lent(lent: u16) -> usize {
+fn words_lent(lent: u16) -> usize
+    ensures { result ≤ 129 }
+{
     match lent {
-        3 => 127,
-        4 => 129,
-        6 => 0,
-        7 => 0,
+        3 => STORE_WORDS - 1,
+        4 => STORE_WORDS + 1,
+        6 | 7 => 0,
         _ => STORE_WORDS,
     }
-}
-
-// The first `count` words, or all where there are fewer.
-fn front_words<'a>(words: &'a mut [u64], count: usize) -> &'a mut [u64] {
-    if words.len() <= count {
-        return words;
-    }
-    &mut words[..count]
 }

@@ -4,12 +4,11 @@
 #![tactic(auto)]
 
 mod calls;
-mod compared;
-mod items;
 mod lines;
 mod replays;
 mod rows;
 mod spaces;
+mod train;
 
 use crate::lines::Run;
 use input::read_full;
@@ -32,26 +31,21 @@ fn main(rt: HostRuntime) -> io::Result<()> {
     let line = vectors::front(&mut line_space, LONGEST_LINE);
     let mut pool = spaces::largest_train();
     let mut ends = spaces::most_items();
-    rows::print(
-        &rt,
-        replayed(vectors::part(text, 0, n), line, &mut pool, &mut ends),
-    )
+    let part = vectors::part(text, 0, n);
+    rows::print(&rt, replayed(part, line, &mut pool, &mut ends))
 }
 
 fn replayed(text: &[u8], line: &mut [u8], pool: &mut [u8], ends: &mut [usize]) -> Tally {
-    let mut run = Run::new();
+    let mut run = Run::new(pool, ends);
     let mut at = 0;
     while at < text.len() {
         let read = vectors::decode(text, at, line);
         at = read.next;
-        run = lines::taken(
-            run,
-            read.whole,
-            vectors::part(line, 0, read.len),
-            pool,
-            ends,
-        );
+        run.take(if read.whole {
+            Some(vectors::part(line, 0, read.len))
+        } else {
+            None
+        });
     }
-    let tally = run.tally;
-    tally
+    run.tally
 }

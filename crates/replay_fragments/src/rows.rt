@@ -22,8 +22,8 @@ const NO_ROW: usize = 32;
 // The row of a call that is to be answered so.
 pub fn row_of(answer: u8) -> usize {
     match answer {
-        0..=3 => CALLS + (answer as usize),
-        10..=13 => CALLS + ANSWERS + ((answer - FIRST_REFUSAL) as usize),
+        0..=3 => CALLS + usize::from(answer),
+        10..=13 => CALLS + ANSWERS + usize::from(answer - FIRST_REFUSAL),
         _ => NO_ROW,
     }
 }

@@ -15,14 +15,7 @@ pub fn most_items() -> [usize; 8191]
     [0; 8191]
 }
 
-// A store's 128 words and one more: some steps lend it too large.
-pub fn clear_bits() -> [u64; 129]
-    ensures { 129 ≡ length result }
-{
-    [0; 129]
-}
-
-// The same, as no call of ours has left them.
+// A store's 128 words and one more, since some steps lend it too large, as no call of ours has left them.
 pub fn rubbish_bits() -> [u64; 129]
     ensures { 129 ≡ length result }
 {

@@ -4,7 +4,7 @@ ghost use Rattle.store_words.specs.Reports.{Reports};
 ghost use Rattle.store_words.specs.Words.{state_of, words_of};
 
 use crate::words::words_of;
-use fragments::{Answer, Refusal, State, Taken};
+use fragments::{Answer, State, Taken};
 
 #[tactic(auto, unfolding(fragments::specs::Answer::said_for, crate::specs::Reports::number_of, crate::specs::Reports::changes))]
 pub fn report(taken: Taken, words: &mut [u32; 6]) -> u32
@@ -16,10 +16,7 @@ pub fn report(taken: Taken, words: &mut [u32; 6]) -> u32
         Ok(Answer::Stored) => keep(21, state, words),
         Ok(Answer::Complete) => keep(22, state, words),
         Ok(Answer::Released) => keep(23, state, words),
-        Err(Refusal::Unfit) => 10,
-        Err(Refusal::Held) => 11,
-        Err(Refusal::Overlap) => 12,
-        Err(Refusal::WrongEnd) => 13,
+        Err(refusal) => refusal as u32,
     }
 }
 

@@ -3,7 +3,7 @@ use Rattle.std.proofs.Common.{◌≡◌, ◌-◌, ◌≤◌, length}
 use Rattle.replay_fragments.proofs.replayed.Given as goal
 
 abbrev pub invariant-loop-at : goal.invariant-loop-at
-invariant-loop-at l = (l.at ≤ length l.text) × (length l.line ≡ length l.initial.line) × (length l.pool ≡ length l.initial.pool) × (length l.ends ≡ length l.initial.ends)
+invariant-loop-at l = (l.at ≤ length l.text) × (length l.line ≡ length l.initial.line)
 
 abbrev pub decreases-loop-at : goal.decreases-loop-at
 decreases-loop-at l = length l.text - l.at
