@@ -95,6 +95,10 @@ pub put_front : (s b : List ℕ) → put 0 s b ≡ s ++ drop (length s) b
 unfolding put
 put_front s b = ap (λ (n : ℕ). s ++ drop n b) (zero-add (length s))
 
+-- what is put over all of a buffer
+pub put_over : (s b : List ℕ) → length b ≤ length s → put 0 s b ≡ s
+put_over s b h = put_front s b ∙ ap (λ (rest : List ℕ). s ++ rest) (drop_of_length-le b h) ∙ append-nil s
+
 -- a piece written at the front of what lies from `at` on, as the code hands a part of a buffer on
 pub put_in_part : (at : ℕ) (s b rest after : List ℕ) → at + length s ≤ length b → rest ≡ put_if_fits 0 s (take (length b - at) (drop at b))
     → after ≡ take at b ++ (rest ++ drop (length b - at) (drop at b)) → after ≡ put at s b

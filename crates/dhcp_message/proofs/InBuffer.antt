@@ -4,7 +4,9 @@ use mathlib.Core.Path.{◌≡◌}
 use mathlib.Core.List.{List, [], ◌∷◌}
 use lib.ListN.{length}
 use Rattle.record.specs.Answer.{paper, Wrote}
+use Rattle.std.proofs.Common.{Result}
 use Rattle.record.specs.declared.answer.Verdict.{Verdict}
+use Rattle.record.specs.declared.answer.Refusal.{Refusal}
 use Rattle.record.specs.declared.network.Network.{Network}
 use Rattle.record.proofs.Fitting.{on_no_room, short_of_room, on_written, with_room, fits_in_buffer}
 use Rattle.record.proofs.InBuffer.{InBuffer}
@@ -12,7 +14,7 @@ use Rattle.dhcp_message.specs.Message.{build_reply_lem, reply}
 use Rattle.record.specs.Network.{FourBytes}
 use Rattle.dhcp_message.proofs.ReadBack.{reply_reads_back}
 
-module _ (net : Network) (mac : List ℕ) (xid type : ℕ) (before after : List ℕ) (v : Verdict)
+module _ (net : Network) (mac : List ℕ) (xid type : ℕ) (before after : List ℕ) (v : Result Verdict Refusal)
     (w : Wrote (build_reply_lem net mac xid type (length before)) before after v) where
   -- 5 exactly with less room than 300; it says 300, and not one byte changes
   pub on_five : (k : ℕ) → paper v ≡ 5 ∷ k ∷ [] → (length before < 300) × (k ≡ 300) × (after ≡ before)

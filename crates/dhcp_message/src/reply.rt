@@ -1,14 +1,13 @@
 // The reply to a guest's message.
-ghost use Rattle.std.specs.Prelude.{◌≡◌, ◌≤◌, length};
-ghost use Rattle.record.specs.Answer.{Wrote};
+ghost use Rattle.std.specs.Prelude.{◌≡◌, length};
+ghost use Rattle.record.specs.Answer.{Wrote, as_verdict};
 ghost use Rattle.base.specs.Buffer.{put as Buffer·put, put_if_fits};
 ghost use Rattle.dhcp_message.specs.Message.{answering, build_reply_lem, reply as Message·reply, some_answer};
 ghost use Rattle.dhcp_message.specs.helpers.Pieces.{first_fields_lem, fixed_part, written, values as Pieces·values};
 ghost use Rattle.options.specs.Rfc2132.{option};
 
 use base::put;
-use record::{Network, Verdict};
-use wire::bytes::be32;
+use record::{Network, Refusal, within_room};
 use wire::dhcp;
 
 // Option codes.
@@ -63,35 +62,34 @@ pub fn reply_type(received: u8) -> Option<u8>
 }
 
 // A reply of type `kind` at the front of `out`. `mac` is the record's, not the request's.
-pub fn build_reply(net: Network, mac: [u8; 6], xid: u32, kind: u8, out: &mut [u8]) -> Verdict
-    ensures { Wrote (build_reply_lem net mac xid kind (length out.old)) out.old out.new result }
+pub fn build_reply(
+    net: Network,
+    mac: [u8; 6],
+    xid: u32,
+    kind: u8,
+    out: &mut [u8],
+) -> Result<usize, Refusal>
+    ensures { Wrote (build_reply_lem net mac xid kind (length out.old)) out.old out.new (as_verdict result) }
 {
-    if out.len() < REPLY_LENGTH {
-        return Verdict::NoRoom(REPLY_LENGTH);
-    }
-    write_reply_of(net, mac, xid, kind, out);
-    Verdict::Reply(REPLY_LENGTH)
+    let need = within_room(out.len(), REPLY_LENGTH)?;
+    put_reply(net, mac, xid, kind, out);
+    Ok(need)
 }
 
 // The same, with nothing to say: where it does not fit, nothing is written.
 pub fn put_reply(net: Network, mac: [u8; 6], xid: u32, kind: u8, out: &mut [u8])
     ensures { out.new ≡ put_if_fits 0 (Message·reply net mac xid kind) out.old }
 {
-    if out.len() < REPLY_LENGTH {
-        return;
+    if let Some(reply) = out.first_chunk_mut() {
+        write_reply_of(net, mac, xid, kind, reply);
     }
-    write_reply_of(net, mac, xid, kind, out);
 }
 
-// The same where there is room.
-fn write_reply_of(net: Network, mac: [u8; 6], xid: u32, kind: u8, out: &mut [u8])
-    requires { 300 ≤ length out.old }
-    ensures { out.new ≡ Buffer·put 0 (Message·reply net mac xid kind) out.old }
+fn write_reply_of(net: Network, mac: [u8; 6], xid: u32, kind: u8, reply: &mut [u8; REPLY_LENGTH])
+    ensures { reply.new ≡ Message·reply net mac xid kind }
 {
-    let guest = net.guest;
-    let gateway = net.gateway;
-    let fields = first_fields(guest, gateway, mac, xid);
-    write_reply(fields, kind, option_values(net), out);
+    let fields = first_fields(net.guest, net.gateway, mac, xid);
+    write_reply(fields, kind, option_values(net), reply);
 }
 
 // The rows: server identifier, lease time, subnet mask, router, name server.
@@ -100,35 +98,38 @@ fn option_values(net: Network) -> [[u8; 4]; 5]
 {
     let gateway = net.gateway;
     let mask = net.mask;
-    [gateway, be32(net.lease), mask, gateway, gateway]
+    let lease = net.lease.to_be_bytes();
+    [gateway, lease, mask, gateway, gateway]
 }
 
 // Each piece stands right behind the one before it: the fixed part, the message type, an option for
 // each row of `values`, the end and its zeros.
-fn write_reply(fields: [u8; ZEROS_AT], kind: u8, values: [[u8; 4]; 5], out: &mut [u8])
-    requires { 300 ≤ length out.old }
-    ensures { out.new ≡ Buffer·put 0 (written fields kind values) out.old }
+fn write_reply(
+    fields: [u8; ZEROS_AT],
+    kind: u8,
+    values: [[u8; 4]; 5],
+    reply: &mut [u8; REPLY_LENGTH],
+)
+    ensures { reply.new ≡ written fields kind values }
 {
-    put_fixed_part(fields, out);
-    put(out, TYPE_AT, &[dhcp::MESSAGE_TYPE, 1, kind]);
-    put_row(out, SERVER_ID_AT, SERVER_ID, values[0]);
-    put_row(out, LEASE_TIME_AT, LEASE_TIME, values[1]);
-    put_row(out, SUBNET_MASK_AT, SUBNET_MASK, values[2]);
-    put_row(out, ROUTER_AT, ROUTER, values[3]);
-    put_row(out, NAME_SERVER_AT, NAME_SERVER, values[4]);
-    put(out, END_AT, &[dhcp::END]);
-    put(out, END_AT + 1, &[0; REPLY_LENGTH - END_AT - 1]);
+    put_fixed_part(fields, reply);
+    put(reply, TYPE_AT, &[dhcp::MESSAGE_TYPE, 1, kind]);
+    put_row(reply, SERVER_ID_AT, SERVER_ID, values[0]);
+    put_row(reply, LEASE_TIME_AT, LEASE_TIME, values[1]);
+    put_row(reply, SUBNET_MASK_AT, SUBNET_MASK, values[2]);
+    put_row(reply, ROUTER_AT, ROUTER, values[3]);
+    put_row(reply, NAME_SERVER_AT, NAME_SERVER, values[4]);
+    put(reply, END_AT, &[dhcp::END]);
+    put(reply, END_AT + 1, &[0; REPLY_LENGTH - END_AT - 1]);
 }
 
 // The fields, zeros up to the cookie, and the cookie.
-fn put_fixed_part(fields: [u8; ZEROS_AT], out: &mut [u8])
-    requires { 300 ≤ length out.old }
-    ensures { out.new ≡ Buffer·put 0 (fixed_part fields) out.old }
+fn put_fixed_part(fields: [u8; ZEROS_AT], reply: &mut [u8; REPLY_LENGTH])
+    ensures { reply.new ≡ Buffer·put 0 (fixed_part fields) reply.old }
 {
-    let cookie = be32(dhcp::MAGIC_COOKIE);
-    put(out, 0, &fields);
-    put(out, ZEROS_AT, &[0; dhcp::COOKIE - ZEROS_AT]);
-    put(out, dhcp::COOKIE, &cookie);
+    put(reply, 0, &fields);
+    put(reply, ZEROS_AT, &[0; dhcp::COOKIE - ZEROS_AT]);
+    put(reply, dhcp::COOKIE, &dhcp::MAGIC_COOKIE.to_be_bytes());
 }
 
 // One option of four bytes from `at` on. (A row's length stands here for the callers' proofs.)
@@ -142,7 +143,7 @@ fn put_row(out: &mut [u8], at: usize, code: u8, value: [u8; 4])
 fn first_fields(guest: [u8; 4], gateway: [u8; 4], mac: [u8; 6], xid: u32) -> [u8; ZEROS_AT]
     ensures { result ≡ first_fields_lem guest gateway mac xid }
 {
-    let id = be32(xid);
+    let id = xid.to_be_bytes();
     [
         dhcp::BOOT_REPLY,
         dhcp::ETHERNET,

@@ -1,11 +1,11 @@
 -- The rule of 5 by itself: its laws are those of the rule of 5 and 6 with a limit that nothing passes.
-use Rattle.std.proofs.Common.{◌≡◌, ℕ, ◌<◌, ◌≤◌, List, [], ◌∷◌, ◌++◌, length, drop, Result, Ok, Err, arith}
-use Rattle.record.specs.Answer.{paper, Wrote, building, fitting}
+use Rattle.std.proofs.Common.{◌≡◌, ℕ, ◌<◌, ◌≤◌, List, [], ◌∷◌, ◌++◌, length, drop, Result, Ok, Err, IsErrAnd, arith}
+use Rattle.record.specs.Answer.{paper, Wrote, as_verdict, building, fitting}
 use Rattle.record.specs.declared.answer.Verdict.{Verdict}
 use Rattle.record.specs.declared.answer.Verdict.TheVariants.{Reply}
 use Rattle.record.specs.declared.answer.Refusal.{Refusal}
 use Rattle.record.specs.declared.answer.Refusal.TheVariants.{NoRoom}
-use Rattle.record.proofs.Built.{no_room, written}
+use Rattle.record.proofs.Built.{no_room, exit_no_room, written}
 use Rattle.record.proofs.Changes.{on_five, five_short_room, on_one, one_with_room}
 use Rattle.record.proofs.InBuffer.{InBuffer, in_buffer}
 
@@ -13,6 +13,12 @@ module _ (need room : ℕ) (image before : List ℕ) where
   pub does_not_fit : room < need → Wrote (fitting need room image) before before (Err (NoRoom need))
   unfolding building
   does_not_fit r = no_room 0 0 need room image before (omega arith) r
+
+  -- the same at the exit of a `?` behind `within_room`: `r` is what the call answers there, `e` what that said
+  pub exit_does_not_fit : (r : Result ℕ Refusal) (e : Refusal) → IsErrAnd r (λ y. y ≡ e) → (room < need) × (e ≡ NoRoom need)
+      → Wrote (fitting need room image) before before (as_verdict r)
+  unfolding building
+  exit_does_not_fit r e handed_on said = exit_no_room 0 0 need room image before r e handed_on (omega arith) said
 
   pub does_fit : (after : List ℕ) → need ≤ room → after ≡ image ++ drop (length image) before → Wrote (fitting need room image) before after (Ok (Reply need))
   unfolding building
