@@ -24,6 +24,10 @@ pub fold_small : (s : ℕ) → s ≤ 65535 → fold s ≡ s
 fold_small zero h = fold_zero
 fold_small (suc s) h = rw (fold_pos (suc s) (omega arith)) (omega arith)
 
+-- what has the same fold has it with more added
+pub fold_with : (a b more : ℕ) → fold a ≡ fold b → fold (a + more) ≡ fold (b + more)
+fold_with a b more e = sym (fold_fold a more) ∙ ap (λ (n : ℕ). fold (n + more)) e ∙ fold_fold b more
+
 -- a fold has 16 bits
 pub fold_most : (s : ℕ) → fold s ≤ 65535
 unfolding fold

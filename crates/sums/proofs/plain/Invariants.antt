@@ -1,10 +1,9 @@
--- `plain` meets its contract. The invariant: what is folded so far and the sum of what is left fold as the whole.
-use Rattle.std.proofs.Common.{◌≡◌, ◌+◌, ◌-◌, ◌/◌, ◌≤◌, length, drop}
+-- `plain` meets its contract. The invariant: what is folded so far and the sum of the words that are left fold as the whole.
+use Rattle.std.proofs.Common.{◌≡◌, ◌+◌, ◌≤◌, drop, flat_map}
 use Rattle.sums.specs.Rfc1071.{total, fold}
 use Rattle.sums.proofs.plain.Given as goal
 
-abbrev pub invariant-loop-i : goal.invariant-loop-i
-invariant-loop-i l = (l.i ≤ length l.input) × (fold (l.so_far + total (drop l.i l.input)) ≡ fold (l.start + total l.input)) × (l.so_far ≤ 65535)
-
-abbrev pub decreases-loop-i : goal.decreases-loop-i
-decreases-loop-i l = (length l.input - l.i) / 2
+abbrev pub invariant-loop-word : goal.invariant-loop-word
+invariant-loop-word l =
+    (fold (l.so_far + total (flat_map (λ word. word) (drop l.word-index l.words))) ≡ fold (l.start + total (flat_map (λ word. word) l.words)))
+    × (l.so_far ≤ 65535)

@@ -1,34 +1,38 @@
--- `with_tail` meets its contract. The invariant: 256 times the running total and the sum of what is left fold as the whole, and it has grown by 65,535 a word at most.
-use Rattle.std.proofs.Common.{◌≡◌, ℕ, ◌+◌, ◌-◌, length, get_or, ap, ◌∙◌, arith}
-use Rattle.sums.specs.Rfc1071.{fold}
-use Rattle.sums.proofs.Laws.{fold_two, total_last, total_none}
+-- `with_tail` meets its contract: the words first, and behind them an odd byte.
+use Rattle.std.proofs.Common.{ℕ, ◌+◌, ◌*◌, [], List, get_or, drop, flat_map, ap, ◌∙◌, arith, sym, ltb-true}
+use Rattle.sums.specs.Rfc1071.{total, fold}
+use Rattle.sums.proofs.Chunks.{fold_word, joined_from, none_joined, total_words, word_length}
+use Rattle.sums.proofs.Laws.{fold_with, total_last, total_none}
 use Rattle.sums.proofs.with_tail.Goals as goal
 
-pub loop-i-preserved : goal.loop-i-preserved
-loop-i-preserved c =
-    let l = c.loop-i in
-    let s = c.args.rest.now in (
+pub loop-word-preserved : goal.loop-word-preserved
+loop-word-preserved c =
+    let l = c.loop-word in
+    let s = c.as_chunks.result.0.now in
+    let word = get_or s l.word-index [] in
+    let behind = flat_map (λ (e : List ℕ). e) (drop (l.word-index + 1) s) in (
+      ap (λ (n : ℕ). fold ((l.running + n) * 256 + total behind)) (c.from-running.ensures ∙ c.from_le_bytes.ensures)
+          ∙ fold_word word behind l.running (word_length c.args.rest.now s l.word-index c.as_chunks.ensures.front (omega arith))
+          ∙ ap (λ (left : List ℕ). fold (l.running * 256 + total left)) (sym (joined_from s l.word-index (omega arith)))
+          ∙ l.invariant.0,
       omega arith,
-      omega arith,
-      fold_two s l.i (l.i + 2) l.running (omega arith) (omega arith) c.with_word-running.ensures.value ∙ l.invariant.2,
-      omega (arith, c.with_word-running.ensures.upper_bound),
     )
 
-pub returns-then-rest-eq1 : goal.returns-then-rest-eq1
-returns-then-rest-eq1 c =
-    let l = c.loop-i in
-    let s = c.args.rest.now in
-    let last : l.i ≡ length s - 1 = omega arith in
-    record {
-      result_value = ap fold (omega (arith, total_last s l.i (omega arith), ap (λ (n : ℕ). get_or s n 0) last, c.low_first.ensures.0)) ∙ l.invariant.2;
-      upper_bound = omega (arith, c.low_first.ensures.1);
-    }
+pub returns-then-odd-lt1-clause-result_value : goal.returns-then-odd-lt1-clause-result_value
+returns-then-odd-lt1-clause-result_value c =
+    let l = c.loop-word in
+    let words = c.as_chunks.result.0.now in
+    let odd = c.as_chunks.result.1.now in
+    ap fold (omega (arith, none_joined words l.word-index (omega arith)))
+    ∙ l.invariant.0
+    ∙ ap fold (omega (arith, total_words c.args.rest.now words odd c.as_chunks.ensures.front c.as_chunks.ensures.back, total_none odd 0 (omega (arith, ltb-true))))
 
-pub returns : goal.returns
-returns c =
-    let l = c.loop-i in
-    let s = c.args.rest.now in
-    record {
-      result_value = ap fold (omega (arith, total_none s l.i (omega arith))) ∙ l.invariant.2;
-      upper_bound = omega arith;
-    }
+pub returns-in-len1-clause-result_value : goal.returns-in-len1-clause-result_value
+returns-in-len1-clause-result_value c =
+    let l = c.loop-word in
+    let words = c.as_chunks.result.0.now in
+    let odd = c.as_chunks.result.1.now in
+    let last = c.from-running-in-len1.result in
+    ap fold (omega (arith, none_joined words l.word-index (omega arith)))
+    ∙ fold_with (l.running * 256 + total (flat_map (λ (e : List ℕ). e) (drop l.word-index words))) _ (last * 256) l.invariant.0
+    ∙ ap fold (omega (arith, c.from-running-in-len1.ensures, total_words c.args.rest.now words odd c.as_chunks.ensures.front c.as_chunks.ensures.back, total_last odd 0 (omega arith)))
