@@ -14,6 +14,8 @@ use Rattle.wire.specs.Rfc768.{datagram}
 use Rattle.frames.specs.Frames.{ip_frame}
 use Rattle.record.specs.declared.answer.Answer.{Answer}
 use Rattle.record.specs.declared.guest.Guest.{Guest}
+use Rattle.std.specs.Prelude.{Result}
+use Rattle.record.specs.declared.answer.Refusal.{Refusal}
 use Rattle.record.specs.declared.answer.Verdict.{Verdict}
 use Rattle.frames.proofs.Lengths.{length_ip_frame}
 use Rattle.published.specs.Rust.{Run, gives, panics, cuts, unfinished, whole}
@@ -95,7 +97,7 @@ module _ (guest : Guest) (limit len need : ℕ) (image : List ℕ) (run : Run Co
 
 -- one that takes none: what the Rust built becomes `image`, which is as long
 module _ (from to : List ℕ) (limit len need : ℕ) (rust image : List ℕ) (become : summed from to rust ≡ image) (run : Run (List ℕ)) (size : length rust ≡ need) (over : limit < len → run ≡ cuts)
-    (within : len ≤ limit → run ≡ gives rust) (before after : List ℕ) (verdict : Verdict) (m : Wrote (building limit len need (length before) image) before after verdict) where
+    (within : len ≤ limit → run ≡ gives rust) (before after : List ℕ) (verdict : Result Verdict Refusal) (m : Wrote (building limit len need (length before) image) before after verdict) where
   run_ended' : Ended limit len run rust over within
   run_ended' = ended limit len run rust over within
 
@@ -132,7 +134,7 @@ module _ (before after : List ℕ) where
       before after answer
 
   -- Document 02, 6/13: the checksum is RFC 768's, between whatever addresses
-  module _ (from to : List ℕ) (source target : ℕ) (body : List ℕ) (verdict : Verdict) (w : Wrote (make_udp_payload_lem from to source target body (length before)) before after verdict) where
+  module _ (from to : List ℕ) (source target : ℕ) (body : List ℕ) (verdict : Result Verdict Refusal) (w : Wrote (make_udp_payload_lem from to source target body (length before)) before after verdict) where
     pub make_udp_payload_equals : DatagramEquals from to (make_udp_payload source target (whole body)) 65527 (length body) before after verdict
     make_udp_payload_equals =
         datagram_equals from to 65527 (length body) (8 + length body) (unsummed source target body) (datagram from to source target body) (unsummed_summed source target body from to) _

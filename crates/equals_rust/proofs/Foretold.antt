@@ -20,8 +20,11 @@ use Rattle.rules.specs.Rules.{payload, decision, outcome_of, outcome}
 use Rattle.record.specs.Guest.{noting, known, Sized}
 use Rattle.record.specs.Answer.{unwritten, framing}
 use Rattle.rules.specs.Seen.{CutMessage, TooLongPing}
+use Rattle.std.specs.Prelude.{Result, Ok, Err}
+use Rattle.record.specs.declared.answer.Refusal.{Refusal}
+use Rattle.record.specs.declared.answer.Refusal.TheVariants.{NoRoom, TooLong, CutType}
 use Rattle.rules.specs.declared.decision.Decision.{Decision}
-use Rattle.rules.specs.declared.decision.Decision.TheVariants.{Drop, DropNoting, ArpReply, EchoReply, DhcpReply, Dns, Relay, Tcp, TooLong, CutType}
+use Rattle.rules.specs.declared.decision.Decision.TheVariants.{Drop, DropNoting, ArpReply, EchoReply, DhcpReply, Dns, Relay, Tcp}
 use Rattle.rules.proofs.Says.{Says, says}
 use Rattle.echo_reply.proofs.Echo.{length_echo}
 use Rattle.arp_reply.proofs.ReadBack.{arp_reads_back}
@@ -147,17 +150,17 @@ module _ (self : SlirpBackend) (frame : List ℕ) where
         → Foretells room r (framing (record_of self) (known self.guest_mac counter xid rust_network) need room rust)
     replied_whole rust counter xid need e other size = replied rust rust counter xid need e (amended_other rust other) size (inl (other_kept rust _ other))
 
-    foretold : GuestTyped (record_of self) → (d : Decision) → Says rust_network frame d → Ran self frame r d → Foretells room r (outcome_of (record_of self) frame room d)
+    foretold : GuestTyped (record_of self) → (d : Result Decision Refusal) → Says rust_network frame d → Ran self frame r d → Foretells room r (outcome_of (record_of self) frame room d)
     unfolding Ran Says outcome_of
-    foretold typed Drop s (inl e) = quiet self _ _ _ e (came_quiet self frame self.dhcp_xid) refl
-    foretold typed Drop s (inr (h, e)) = by_run panics _ e (inl (h, refl))
-    foretold typed (DropNoting xid) s e = quiet _ _ _ _ e (came_quiet self frame xid) refl
-    foretold typed ArpReply s e = replied_whole _ _ _ 42 e (arp_other rust_network frame refl) (arp_reads_back rust_network frame refl).long
-    foretold typed (EchoReply start) s e =
+    foretold typed (Ok Drop) s (inl e) = quiet self _ _ _ e (came_quiet self frame self.dhcp_xid) refl
+    foretold typed (Ok Drop) s (inr (h, e)) = by_run panics _ e (inl (h, refl))
+    foretold typed (Ok (DropNoting xid)) s e = quiet _ _ _ _ e (came_quiet self frame xid) refl
+    foretold typed (Ok ArpReply) s e = replied_whole _ _ _ 42 e (arp_other rust_network frame refl) (arp_reads_back rust_network frame refl).long
+    foretold typed (Ok (EchoReply start)) s e =
         let eight = subst (λ (n : ℕ). 8 ≤ length (drop n frame)) (sym s.1) s.0.whole in
         let its = echo_frame_reads_back rust_network self.counter frame (echo (drop start frame)) refl in
         replied_whole _ _ _ _ e (icmp_other its) (its.long ∙ ap (λ (n : ℕ). 34 + n) (length_echo (drop start frame) (omega (arith, eight))))
-    foretold typed (DhcpReply xid type) s e =
+    foretold typed (Ok (DhcpReply xid type)) s e =
         let sized : Sized (record_of self) = record { mac = typed.mac.long; network = four_bytes } in
         replied _ _ _ xid 342 e (lease_amended (record_of self) frame xid type sized) (dhcp_reads_back (record_of self) frame xid type sized).long
         (inr
@@ -167,16 +170,17 @@ module _ (self : SlirpBackend) (frame : List ℕ) where
           to_67 = lease_to (record_of self) frame xid type sized;
           no_checksum = lease_unsummed (record_of self) frame xid type sized;
         }))
-    foretold typed (Dns start len) s e =
+    foretold typed (Ok (Dns start len)) s e =
         let inside = s.handed.inside in
         quiet _ _ _ _ e (came_called self frame _ (part_again start len inside, refl, refl, refl)) (ap (λ (n : ℕ). unwritten (2 ∷ start ∷ n ∷ []) (record_of self)) (part_length start len inside))
-    foretold typed (Relay start len) s e =
+    foretold typed (Ok (Relay start len)) s e =
         let inside = s.handed.inside in
         quiet _ _ _ _ e (came_called self frame _ (part_again start len inside, refl, refl, refl, refl, refl)) (ap (λ (n : ℕ). unwritten (3 ∷ start ∷ n ∷ []) (record_of self)) (part_length start len inside))
-    foretold typed (Tcp len) s e = quiet _ _ _ _ e.1 (came_called self frame (handle_tcp (whole frame)) refl) (ap (λ (n : ℕ). unwritten (4 ∷ n ∷ []) (record_of self)) e.0)
-    foretold typed (TooLong len) s e =
+    foretold typed (Ok (Tcp len)) s e = quiet _ _ _ _ e.1 (came_called self frame (handle_tcp (whole frame)) refl) (ap (λ (n : ℕ). unwritten (4 ∷ n ∷ []) (record_of self)) e.0)
+    foretold typed (Err (NoRoom needed)) s e = absurd s
+    foretold typed (Err (TooLong len)) s e =
         by_run cuts _ e (subst (TooLongPing rust_network frame) s.its_length s, ap (λ (n : ℕ). unwritten (6 ∷ n ∷ []) (record_of self)) s.its_length)
-    foretold typed (CutType place) s e = by_run panics _ e (inr (place, s, refl))
+    foretold typed (Err (CutType place)) s e = by_run panics _ e (inr (place, s, refl))
 
   -- the Rust's run, and what is to come of the same frame with this room
   pub foretells : GuestTyped (record_of self) → Bytes frame → (room : ℕ) → Foretells room (send self (whole frame)) (outcome (record_of self) frame room)

@@ -37,7 +37,7 @@ ran (typed type) = gives type
 ran (cut place) = panics
 
 -- the loop at a place, with turns enough for what is left
-scanned : (turns : ℕ) (dhcp : Slice) (i : ℕ) → len_of dhcp - i < turns → scan turns dhcp i ≡ ran (walk_at dhcp.bytes i)
+scanned : (turns : ℕ) (dhcp : Slice) (i : ℕ) → len_of dhcp - i < turns → scan turns dhcp i ≡ ran (walk_at 0 dhcp.bytes i)
 unfolding scan
 scanned zero dhcp i h = absurd (omega arith)
 scanned (suc turns) dhcp i h = go (λ j k. scanned turns dhcp j k) (ltb i n) refl (eqb code 255) refl (eqb code 0) refl (leb n (i + 1)) refl (decides code size) refl (ltb (i + 2) n) refl
@@ -54,24 +54,24 @@ scanned (suc turns) dhcp i h = go (λ j k. scanned turns dhcp j k) (ltb i n) ref
     size : ℕ
     size = u8_at s (i + 1)
 
-    go : ((j : ℕ) → n - j < turns → scan turns dhcp j ≡ ran (walk_at s j))
+    go : ((j : ℕ) → n - j < turns → scan turns dhcp j ≡ ran (walk_at 0 s j))
         → (there : Bool) → ltb i n ≡ there → (is-end : Bool) → eqb code 255 ≡ is-end → (is-pad : Bool) → eqb code 0 ≡ is-pad
         → (is_last : Bool) → leb n (i + 1) ≡ is_last → (it : Bool) → decides code size ≡ it → (value : Bool) → ltb (i + 2) n ≡ value
-        → scan (suc turns) dhcp i ≡ ran (walk_at s i)
-    go next false e _ _ _ _ _ _ _ _ _ _ = rw (e, past_end s i (ltb-false i n e))
+        → scan (suc turns) dhcp i ≡ ran (walk_at 0 s i)
+    go next false e _ _ _ _ _ _ _ _ _ _ = rw (e, past_end 0 s i (ltb-false i n e))
     go next true e true f _ _ _ _ _ _ _ _ =
         let there = ltb-true i n e in
-        rw (e, index_in dhcp i there, f, at_255 s i there (eqb-true code 255 f))
+        rw (e, index_in dhcp i there, f, at_255 0 s i there (eqb-true code 255 f))
     go next true e false f true g _ _ _ _ _ _ =
         let there = ltb-true i n e in
-        rw (e, index_in dhcp i there, f, g, at_0 s i there (eqb-true code 0 g)) (next (i + 1) (omega (arith, h, there)))
+        rw (e, index_in dhcp i there, f, g, at_0 0 s i there (eqb-true code 0 g)) (next (i + 1) (omega (arith, h, there)))
     go next true e false f false g true k _ _ _ _ =
         let there = ltb-true i n e in
-        rw (e, index_in dhcp i there, f, g, k, at_last s i there (leb-true n (i + 1) k))
+        rw (e, index_in dhcp i there, f, g, k, at_last 0 s i there (leb-true n (i + 1) k))
     go next true e false f false g false k false l _ _ =
         let there = ltb-true i n e in
         let two = leb-false n (i + 1) k in
-        rw (e, index_in dhcp i there, f, g, k, index_in dhcp (i + 1) two, l, at_other s i two (eqb-false code 255 f) (eqb-false code 0 g) l)
+        rw (e, index_in dhcp i there, f, g, k, index_in dhcp (i + 1) two, l, at_other 0 s i two (eqb-false code 255 f) (eqb-false code 0 g) l)
         (next (i + (2 + size)) (omega (arith, h, there)))
     go next true e false f false g false k true l true m =
         let there = ltb-true i n e in
@@ -86,7 +86,7 @@ scanned (suc turns) dhcp i h = go (λ j k. scanned turns dhcp j k) (ltb i n) ref
           index_in dhcp (i + 1) two,
           l,
           index_in dhcp (i + 2) three,
-          at_type s i two (eqb-true code 53 (both_left _ _ l)) (leb-true 1 size (both_right _ _ l)) three,
+          at_type 0 s i two (eqb-true code 53 (both_left _ _ l)) (leb-true 1 size (both_right _ _ l)) three,
         )
     go next true e false f false g false k true l false m =
         let there = ltb-true i n e in
@@ -101,7 +101,7 @@ scanned (suc turns) dhcp i h = go (λ j k. scanned turns dhcp j k) (ltb i n) ref
           index_in dhcp (i + 1) two,
           l,
           index_past dhcp (i + 2) none,
-          at_cut s i two (eqb-true code 53 (both_left _ _ l)) (leb-true 1 size (both_right _ _ l)) none,
+          at_cut 0 s i two (eqb-true code 53 (both_left _ _ l)) (leb-true 1 size (both_right _ _ l)) none,
         )
 
 pub message_type_walks : (dhcp : Slice) → message_type dhcp ≡ ran (walk dhcp.bytes)

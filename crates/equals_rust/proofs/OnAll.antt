@@ -18,7 +18,8 @@ use Rattle.published.specs.Udp.{handle_udp}
 use Rattle.rules.specs.Rules.{payload_at_lem, datagram_data, decision, dhcp_decision}
 use Rattle.rules.specs.Same.{same}
 use Rattle.rules.specs.Seen.{Carries, CutMessage, TooLongPing}
-use Rattle.rules.specs.declared.decision.Decision.TheVariants.{CutType}
+use Rattle.std.specs.Prelude.{Err}
+use Rattle.record.specs.declared.answer.Refusal.TheVariants.{CutType}
 use Rattle.rules.proofs.Same.{equal_same}
 use Rattle.rules.proofs.Says.{dhcp_decided, too_long_decided}
 use Rattle.equals_rust.specs.Alike.{record_of}
@@ -73,7 +74,7 @@ module _ (self : SlirpBackend) (frame : List ℕ) where
   header_past_panics h = read_past h.read h.past
 
 -- a DHCP message whose type is cut off is decided so
-pub cut_decided : (frame : List ℕ) (place : ℕ) → CutMessage frame place → decision rust_network frame ≡ CutType place
+pub cut_decided : (frame : List ℕ) (place : ℕ) → CutMessage frame place → decision rust_network frame ≡ Err (CutType place)
 unfolding dhcp_decision
 cut_decided frame place m =
     dhcp_decided rust_network frame m.message.datagram m.message.from_68 m.message.to_67

@@ -31,8 +31,11 @@ use Rattle.arp_reply.specs.Reply.{arp_reply_lem, reply_to}
 use Rattle.rules.specs.Rules.{payload_at_lem, payload, data_end, data_at, data_length, datagram_data, decision, arp_decision, ip_decision, icmp_decision, udp_decision, dhcp_decision, type_decision}
 use Rattle.rules.specs.Same.{same}
 use Rattle.rules.specs.Seen.{Carries}
+use Rattle.std.specs.Prelude.{Result, Ok, Err}
+use Rattle.record.specs.declared.answer.Refusal.{Refusal}
+use Rattle.record.specs.declared.answer.Refusal.TheVariants.{NoRoom, TooLong, CutType}
 use Rattle.rules.specs.declared.decision.Decision.{Decision}
-use Rattle.rules.specs.declared.decision.Decision.TheVariants.{Drop, DropNoting, ArpReply, EchoReply, DhcpReply, Dns, Relay, Tcp, TooLong, CutType}
+use Rattle.rules.specs.declared.decision.Decision.TheVariants.{Drop, DropNoting, ArpReply, EchoReply, DhcpReply, Dns, Relay, Tcp}
 use Rattle.rules.proofs.Same.{same_equal}
 use Rattle.rules.proofs.Says.{either}
 use Rattle.equals_rust.specs.Alike.{record_of}
@@ -46,22 +49,23 @@ use Rattle.equals_rust.proofs.Fields.{range_at, u16be_in, eth_src_lem, eth_type_
 use Rattle.base.proofs.Choice.{by_test}
 
 -- what a run comes to, by the decision
-unfoldable pub Ran : (self : SlirpBackend) (frame : List ℕ) → Run SlirpBackend → Decision → Type 0
-Ran self frame r Drop = (r ≡ gives self) ⊎ (HeaderPast frame × (r ≡ panics))
-Ran self frame r (DropNoting xid) = r ≡ gives (with_xid xid self)
-Ran self frame r ArpReply = r ≡ gives (pushed (arp_reply_lem rust_network frame) self.counter self)
-Ran self frame r (EchoReply start) = r ≡ gives (pushed (echo_frame (record_of self) frame start) ((self.counter + 1) % 65536) self)
-Ran self frame r (DhcpReply xid type) = r ≡ gives (pushed (rust_lease (record_of self) frame xid type) ((self.counter + 1) % 65536) (with_xid xid self))
-Ran self frame r (Dns start len) =
+unfoldable pub Ran : (self : SlirpBackend) (frame : List ℕ) → Run SlirpBackend → Result Decision Refusal → Type 0
+Ran self frame r (Ok Drop) = (r ≡ gives self) ⊎ (HeaderPast frame × (r ≡ panics))
+Ran self frame r (Ok (DropNoting xid)) = r ≡ gives (with_xid xid self)
+Ran self frame r (Ok ArpReply) = r ≡ gives (pushed (arp_reply_lem rust_network frame) self.counter self)
+Ran self frame r (Ok (EchoReply start)) = r ≡ gives (pushed (echo_frame (record_of self) frame start) ((self.counter + 1) % 65536) self)
+Ran self frame r (Ok (DhcpReply xid type)) = r ≡ gives (pushed (rust_lease (record_of self) frame xid type) ((self.counter + 1) % 65536) (with_xid xid self))
+Ran self frame r (Ok (Dns start len)) =
     r ≡ gives (calling (handle_dns (record { start = start; bytes = take len (drop start frame) }) (source_mac frame) (source_of (body frame)) (source_port (payload frame))) self)
-Ran self frame r (Relay start len) =
+Ran self frame r (Ok (Relay start len)) =
     r ≡ gives (calling (relay_datagram (source_mac frame) (source_of (body frame)) (source_port (payload frame)) (target_of (body frame)) (target_port (payload frame)) (record { start = start; bytes = take len (drop start frame) })) self)
-Ran self frame r (Tcp len) = (len ≡ length frame) × (r ≡ gives (calling (handle_tcp (whole frame)) self))
-Ran self frame r (TooLong len) = r ≡ cuts
-Ran self frame r (CutType place) = r ≡ panics
+Ran self frame r (Ok (Tcp len)) = (len ≡ length frame) × (r ≡ gives (calling (handle_tcp (whole frame)) self))
+Ran self frame r (Err (NoRoom needed)) = ⊥
+Ran self frame r (Err (TooLong len)) = r ≡ cuts
+Ran self frame r (Err (CutType place)) = r ≡ panics
 
 -- two choices by one test
-both : (P : Run SlirpBackend → Decision → Type 0) (t : Bool) (r r' : Run SlirpBackend) (d d' : Decision) → (t ≡ true → P r d) → (t ≡ false → P r' d') → P (cond t r r') (cond t d d')
+both : {A : Type 0} (P : Run SlirpBackend → A → Type 0) (t : Bool) (r r' : Run SlirpBackend) (d d' : A) → (t ≡ true → P r d) → (t ≡ false → P r' d') → P (cond t r r') (cond t d d')
 both P true r r' d d' f g = f refl
 both P false r r' d d' f g = g refl
 
@@ -92,30 +96,30 @@ smaller stated there =
     (λ e. rw e (omega (arith, ltb-false there stated e)))
 
 module _ (self : SlirpBackend) (frame : List ℕ) where
-  dropped : Ran self frame (gives self) Drop
+  dropped : Ran self frame (gives self) (Ok Drop)
   unfolding Ran
   dropped = inl refl
 
   arp_replied : Ran self frame
-      (gives (pushed (reply_to rust_network.gateway (Arp.sender_mac_lem (body frame)) (Arp.sender_address (body frame))) self.counter self)) ArpReply
+      (gives (pushed (reply_to rust_network.gateway (Arp.sender_mac_lem (body frame)) (Arp.sender_address (body frame))) self.counter self)) (Ok ArpReply)
   unfolding Ran
   arp_replied = refl
 
-  arp_ran : Ran self frame (handle_arp self (whole frame)) (arp_decision rust_network frame)
+  arp_ran : Ran self frame (handle_arp self (whole frame)) (Ok (arp_decision rust_network frame))
   unfolding handle_arp arp_decision copy store reply_to
   arp_ran =
-      both (Ran self frame) (ltb (length frame) 42) _ _ _ _ (λ e. dropped) (λ e.
+      both (λ (r : Run SlirpBackend) (d : Decision). Ran self frame r (Ok d)) (ltb (length frame) 42) _ _ _ _ (λ e. dropped) (λ e.
       let long = ltb-false (length frame) 42 e in
       let arp : Slice = record { start = 14; bytes = body frame } in
       let behind : length (body frame) ≡ length frame - 14 = length-drop 14 frame in
       rw (range_in (whole frame) 14 (length frame) (omega (arith, long)) (omega arith), from_on 14 frame, u16be_in arp 6 (omega (arith, long, behind)))
-      (both (Ran self frame) (not (eqb (Arp.operation (body frame)) 1)) _ _ _ _ (λ f. dropped) (λ f.
+      (both (λ (r : Run SlirpBackend) (d : Decision). Ran self frame r (Ok d)) (not (eqb (Arp.operation (body frame)) 1)) _ _ _ _ (λ f. dropped) (λ f.
       rw (
         range_at arp 24 4 (omega (arith, long, behind)),
         array_of (record { start = 38; bytes = Arp.sought_address (body frame) }) 4 refl,
         same_array_lem (Arp.sought_address (body frame)) rust_network.gateway,
       )
-      (both (Ran self frame) (not (same (Arp.sought_address (body frame)) rust_network.gateway)) _ _ _ _ (λ g. dropped) (λ g.
+      (both (λ (r : Run SlirpBackend) (d : Decision). Ran self frame r (Ok d)) (not (same (Arp.sought_address (body frame)) rust_network.gateway)) _ _ _ _ (λ g. dropped) (λ g.
       rw (
         range_at arp 8 6 (omega (arith, long, behind)),
         array_of (record { start = 22; bytes = Arp.sender_mac_lem (body frame) }) 6 refl,
@@ -125,16 +129,16 @@ module _ (self : SlirpBackend) (frame : List ℕ) where
       arp_replied)))))
 
 module _ (self : SlirpBackend) (frame : List ℕ) (as-typed : GuestTyped (record_of self)) (bytes : Bytes frame) where
-  panicked : HeaderPast frame → Ran self frame panics Drop
+  panicked : HeaderPast frame → Ran self frame panics (Ok Drop)
   unfolding Ran
   panicked h = inr (h, refl)
 
   echoed : (r : Run SlirpBackend) → r ≡ gives (pushed (echo_frame (record_of self) frame (payload_at_lem frame)) ((self.counter + 1) % 65536) self)
-      → Ran self frame r (EchoReply (payload_at_lem frame))
+      → Ran self frame r (Ok (EchoReply (payload_at_lem frame)))
   unfolding Ran
   echoed r e = e
 
-  cut_short : (r : Run SlirpBackend) (len : ℕ) → r ≡ cuts → Ran self frame r (TooLong len)
+  cut_short : (r : Run SlirpBackend) (len : ℕ) → r ≡ cuts → Ran self frame r (Err (TooLong len))
   unfolding Ran
   cut_short r len e = e
 
@@ -161,16 +165,16 @@ module _ (self : SlirpBackend) (frame : List ℕ) (as-typed : GuestTyped (record
       (λ within.
       echoed _ (ping_answered self frame payload' long eight as-typed.id bytes (bytes_drop (payload_at_lem frame) frame bytes) (ltb-false 65515 (length (payload frame)) within))))))))))
 
-  noted : (xid : ℕ) → Ran self frame (gives (with_xid xid self)) (DropNoting xid)
+  noted : (xid : ℕ) → Ran self frame (gives (with_xid xid self)) (Ok (DropNoting xid))
   unfolding Ran
   noted xid = refl
 
   leased : (r : Run SlirpBackend) (xid type : ℕ) → r ≡ gives (pushed (rust_lease (record_of self) frame xid type) ((self.counter + 1) % 65536) (with_xid xid self))
-      → Ran self frame r (DhcpReply xid type)
+      → Ran self frame r (Ok (DhcpReply xid type))
   unfolding Ran
   leased r xid type e = e
 
-  type_cut : (place : ℕ) → Ran self frame panics (CutType place)
+  type_cut : (place : ℕ) → Ran self frame panics (Err (CutType place))
   unfolding Ran
   type_cut place = refl
 
@@ -190,7 +194,7 @@ module _ (self : SlirpBackend) (frame : List ℕ) (as-typed : GuestTyped (record
           (cond one (send_dhcp_reply (with_xid xid self) (whole frame) xid 2)
           (cond three (send_dhcp_reply (with_xid xid self) (whole frame) xid 5)
           (gives (with_xid xid self))))
-          (cond (eqb (cond one 2 (cond three 5 0)) 0) (DropNoting xid) (DhcpReply xid (cond one 2 (cond three 5 0))))
+          (cond (eqb (cond one 2 (cond three 5 0)) 0) (Ok (DropNoting xid)) (Ok (DhcpReply xid (cond one 2 (cond three 5 0)))))
       go true three = leased _ xid 2 (lease_sent self frame as-typed long xid 2)
       go false true = leased _ xid 5 (lease_sent self frame as-typed long xid 5)
       go false false = noted xid
@@ -218,7 +222,7 @@ module _ (self : SlirpBackend) (frame : List ℕ) (as-typed : GuestTyped (record
   named : (start len : ℕ)
       → Ran self frame
       (gives (calling (handle_dns (record { start = start; bytes = take len (drop start frame) }) (source_mac frame) (source_of (body frame)) (source_port (payload frame))) self))
-      (Dns start len)
+      (Ok (Dns start len))
   unfolding Ran
   named start len = refl
 
@@ -229,7 +233,7 @@ module _ (self : SlirpBackend) (frame : List ℕ) (as-typed : GuestTyped (record
       (relay_datagram (source_mac frame) (source_of (body frame)) (source_port (payload frame)) (target_of (body frame)) (target_port (payload frame))
       (record { start = start; bytes = take len (drop start frame) }))
       self))
-      (Relay start len)
+      (Ok (Relay start len))
   unfolding Ran
   relayed start len = refl
 
@@ -283,7 +287,7 @@ module _ (self : SlirpBackend) (frame : List ℕ) (as-typed : GuestTyped (record
       (both (Ran self frame) (same (target_of (body frame)) rust_network.gateway && eqb (target_port (payload frame)) 53) _ _ _ _
       (λ m. named (data_at frame) (data_length frame)) (λ m. relayed (data_at frame) (data_length frame))))))))))
 
-  handed_on : Ran self frame (gives (calling (handle_tcp (whole frame)) self)) (Tcp (length frame))
+  handed_on : Ran self frame (gives (calling (handle_tcp (whole frame)) self)) (Ok (Tcp (length frame)))
   unfolding Ran
   handed_on = (refl, refl)
 

@@ -12,8 +12,11 @@ use Rattle.record.specs.declared.guest.Guest.{Guest}
 use Rattle.published.specs.Backend.{SlirpBackend}
 use Rattle.rules.specs.Rules.{decision, outcome_of, outcome}
 use Rattle.record.specs.Answer.{framing}
+use Rattle.std.specs.Prelude.{Result, Ok, Err}
+use Rattle.record.specs.declared.answer.Refusal.{Refusal}
+use Rattle.record.specs.declared.answer.Refusal.TheVariants.{NoRoom, TooLong, CutType}
 use Rattle.rules.specs.declared.decision.Decision.{Decision}
-use Rattle.rules.specs.declared.decision.Decision.TheVariants.{Drop, DropNoting, ArpReply, EchoReply, DhcpReply, Dns, Relay, Tcp, TooLong, CutType}
+use Rattle.rules.specs.declared.decision.Decision.TheVariants.{Drop, DropNoting, ArpReply, EchoReply, DhcpReply, Dns, Relay, Tcp}
 use Rattle.equals_rust.specs.Alike.{record_of}
 use Rattle.equals_rust.specs.Sequence.{Exchange, Served, AsTheRust}
 use Rattle.equals_rust.specs.Types.{GuestTyped}
@@ -38,18 +41,19 @@ module _ (guest : Guest) (typed : GuestTyped guest) where
       go true = typed
       go false = t
 
-  outcome_typed : (frame : List ℕ) (room : ℕ) (d : Decision) → GuestTyped (outcome_of guest frame room d).guest
+  outcome_typed : (frame : List ℕ) (room : ℕ) (d : Result Decision Refusal) → GuestTyped (outcome_of guest frame room d).guest
   unfolding outcome_of
-  outcome_typed frame room Drop = typed
-  outcome_typed frame room (DropNoting xid) = noted_typed xid
-  outcome_typed frame room ArpReply = framed_typed guest 42 room _ typed
-  outcome_typed frame room (EchoReply start) = framed_typed _ _ room _ spent_typed
-  outcome_typed frame room (DhcpReply xid type) = framed_typed _ 342 room _ (both_typed xid)
-  outcome_typed frame room (Dns start len) = typed
-  outcome_typed frame room (Relay start len) = typed
-  outcome_typed frame room (Tcp len) = typed
-  outcome_typed frame room (TooLong len) = typed
-  outcome_typed frame room (CutType place) = typed
+  outcome_typed frame room (Ok Drop) = typed
+  outcome_typed frame room (Ok (DropNoting xid)) = noted_typed xid
+  outcome_typed frame room (Ok ArpReply) = framed_typed guest 42 room _ typed
+  outcome_typed frame room (Ok (EchoReply start)) = framed_typed _ _ room _ spent_typed
+  outcome_typed frame room (Ok (DhcpReply xid type)) = framed_typed _ 342 room _ (both_typed xid)
+  outcome_typed frame room (Ok (Dns start len)) = typed
+  outcome_typed frame room (Ok (Relay start len)) = typed
+  outcome_typed frame room (Ok (Tcp len)) = typed
+  outcome_typed frame room (Err (NoRoom needed)) = typed
+  outcome_typed frame room (Err (TooLong len)) = typed
+  outcome_typed frame room (Err (CutType place)) = typed
 
 -- however many frames
 pub sequence_equals_the_rust : (xs : List Exchange) (self : SlirpBackend) → GuestTyped (record_of self) → Served (record_of self) xs → AsTheRust self xs

@@ -1,8 +1,9 @@
 -- What "equal" means of a builder: the Rust's run beside an answer of ours to the same arguments, with document 01's limit for the `len` bytes that it is given.
-use Rattle.std.specs.Prelude.{ℕ, ◌≤◌, ◌<◌, ◌≡◌, ◌↔◌, List, [], ◌∷◌, length}
+use Rattle.std.specs.Prelude.{ℕ, ◌≤◌, ◌<◌, ◌≡◌, ◌↔◌, List, [], ◌∷◌, length, Result}
 use Rattle.record.specs.Answer.{Wrote, Meets}
 use Rattle.record.specs.declared.answer.Answer.{Answer}
 use Rattle.record.specs.declared.guest.Guest.{Guest}
+use Rattle.record.specs.declared.answer.Refusal.{Refusal}
 use Rattle.record.specs.declared.answer.Verdict.{Verdict}
 use Rattle.published.specs.Rust.{Run, gives, panics, cuts, unfinished}
 use Rattle.published.specs.Frames.{Counted}
@@ -24,7 +25,7 @@ pub record FrameEquals (guest : Guest) (run : Run Counted) (limit len : ℕ) (be
   pub ends : run ≡ unfinished → ⊥
 
 -- one that takes none, but two addresses, of which the Rust's knows nothing. Where the Rust gives a datagram and the buffer has room for it: that datagram, with RFC 768's checksum in it (6/13)
-pub record DatagramEquals (from to : List ℕ) (run : Run (List ℕ)) (limit len : ℕ) (before after : List ℕ) (verdict : Verdict) : Type 0 where
+pub record DatagramEquals (from to : List ℕ) (run : Run (List ℕ)) (limit len : ℕ) (before after : List ℕ) (verdict : Result Verdict Refusal) : Type 0 where
   pub equal : (built : List ℕ) → run ≡ gives built → length built ≤ length before → Wrote (written_as (summed from to built)) before after verdict
   pub lacks_room : (built : List ℕ) → run ≡ gives built → length before < length built → Wrote (unwritten_as (5 ∷ length built ∷ [])) before after verdict
   pub cuts_exactly : (run ≡ cuts) ↔ (limit < len)

@@ -5,6 +5,8 @@ use mathlib.Core.List.{List, [], ◌∷◌}
 use lib.ListN.{length, take, drop}
 use Rattle.record.specs.Answer.{paper, Wrote, Meets}
 use Rattle.record.specs.declared.answer.Answer.{Answer}
+use Rattle.std.specs.Prelude.{Result}
+use Rattle.record.specs.declared.answer.Refusal.{Refusal}
 use Rattle.record.specs.declared.answer.Verdict.{Verdict}
 use Rattle.record.specs.declared.guest.Guest.{Guest}
 use Rattle.wire.specs.Rfc768.{datagram}
@@ -21,7 +23,7 @@ module _ (from to : List ℕ) (four : length from ≡ 4) (four' : length to ≡ 
   datagram_frame_reads_back id = rw (drop_34 mac from to (datagram from to source target d) id 17 six four four') (datagram_reads_back from to four four' source target d)
 
   -- what the two calls left: a datagram of `n` bytes at the front of one buffer, and its frame of `m` at the front of another
-  module _ (before after : List ℕ) (v : Verdict) (n : ℕ) (one : paper v ≡ 1 ∷ n ∷ []) (w : Wrote (make_udp_payload_lem from to source target d (length before)) before after v)
+  module _ (before after : List ℕ) (v : Result Verdict Refusal) (n : ℕ) (one : paper v ≡ 1 ∷ n ∷ []) (w : Wrote (make_udp_payload_lem from to source target d (length before)) before after v)
       (guest : Guest) (before' after' : List ℕ) (a : Answer) (m : ℕ) (one' : paper a.verdict ≡ 1 ∷ m ∷ []) where
     built : take n after ≡ datagram from to source target d
     built = (datagram_in_buffer before after v n from to source target d one w).front

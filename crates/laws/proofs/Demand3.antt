@@ -12,6 +12,8 @@ use Rattle.frames.specs.Builders.{make_ip_frame_lem, make_ip_frame_in_place_lem}
 use Rattle.wire.specs.Rfc768.{datagram}
 use Rattle.record.specs.declared.answer.Answer.{Answer}
 use Rattle.record.specs.declared.guest.Guest.{Guest}
+use Rattle.std.specs.Prelude.{Result}
+use Rattle.record.specs.declared.answer.Refusal.{Refusal}
 use Rattle.record.specs.declared.answer.Verdict.{Verdict}
 use Rattle.datagrams.proofs.InBuffer.{datagram_in_buffer}
 use Rattle.frames.proofs.InBuffer.{ip_frame_in_buffer, ip_frame_in_place_in_buffer}
@@ -106,7 +108,7 @@ module _ (guest : Guest) (mac source target before after : List ℕ) (answer : A
         → Derives (take n after) (other_derivation n)
     ip_frame_in_place_derived len m = other_derived _ n source target protocol (part before 34 len) (made_in_place protocol len m) no-1 no-6 no-17
 
-  module _ (sport dport : ℕ) (d before' after' : List ℕ) (v : Verdict) (k : ℕ) (no-67-68 : sport ≡ 67 → dport ≡ 68 → ⊥) (no-68-67 : sport ≡ 68 → dport ≡ 67 → ⊥)
+  module _ (sport dport : ℕ) (d before' after' : List ℕ) (v : Result Verdict Refusal) (k : ℕ) (no-67-68 : sport ≡ 67 → dport ≡ 68 → ⊥) (no-68-67 : sport ≡ 68 → dport ≡ 67 → ⊥)
       (w : Wrote (make_udp_payload_lem source target sport dport d (length before')) before' after' v) (one' : paper v ≡ 1 ∷ k ∷ []) where
     its_datagram : take k after' ≡ datagram source target sport dport d
     its_datagram = (datagram_in_buffer before' after' v k source target sport dport d one' w).front

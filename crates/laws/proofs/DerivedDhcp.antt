@@ -18,6 +18,7 @@ use Rattle.base.proofs.Lists.{all_bytes_lem}
 use Rattle.grammar.specs.Grammar.{body, payload, ItemList, END, item, option, IsList, options53, DHCP, data_at, Derives}
 use Rattle.grammar.specs.Report.{parts_of}
 use Rattle.grammar.proofs.Places.{placed}
+use Rattle.std.specs.Prelude.{Ok}
 use Rattle.rules.specs.declared.decision.Decision.TheVariants.{DhcpReply}
 use Rattle.laws.specs.Derivations.{reply_items, DerivedAs}
 use Rattle.laws.proofs.DerivedIp.{Packet, payload_placed, payload_byte_law}
@@ -83,7 +84,7 @@ module _ (net : Network) (mac : List ℕ) (xid type : ℕ) (four : FourBytes net
   -- its frame
   pub dhcp_derived : (frame : List ℕ) (n : ℕ) (source target : List ℕ) → length source ≡ 4 → length target ≡ 4
       → Packet frame n 17 source target (datagram source target reply_source reply_target (reply net mac xid type)) → 1 ≤ type → type ≤ 8
-      → DerivedAs n frame (DhcpReply xid type)
+      → DerivedAs n frame (Ok (DhcpReply xid type))
   unfolding Derives parts_of options53 datagram
   dhcp_derived frame n source target source-4 target-4 p least most =
       let m = reply net mac xid type in

@@ -17,8 +17,11 @@ use Rattle.grammar.specs.Grammar.{Derivation, Derives}
 use Rattle.wire.specs.Rfc792.{echo}
 use Rattle.dhcp_reply.specs.Reply.{reply_source, reply_target, dhcp_frame_to}
 use Rattle.rules.specs.Rules.{decision}
+use Rattle.std.specs.Prelude.{Result, Ok, Err}
+use Rattle.record.specs.declared.answer.Refusal.{Refusal}
+use Rattle.record.specs.declared.answer.Refusal.TheVariants.{NoRoom, TooLong, CutType}
 use Rattle.rules.specs.declared.decision.Decision.{Decision}
-use Rattle.rules.specs.declared.decision.Decision.TheVariants.{Drop, DropNoting, ArpReply, EchoReply, DhcpReply, Dns, Relay, Tcp, TooLong, CutType}
+use Rattle.rules.specs.declared.decision.Decision.TheVariants.{Drop, DropNoting, ArpReply, EchoReply, DhcpReply, Dns, Relay, Tcp}
 use Rattle.rules.proofs.Says.{Says, says}
 use Rattle.laws.specs.Derivations.{arp_derivation, icmp_derivation, dhcp_derivation, DerivedAs}
 use Rattle.laws.specs.Table.{built, reply_at_ample_room}
@@ -35,25 +38,24 @@ module _ (guest : Guest) (frame : List ℕ) (sized : Sized guest) where
   abbrev net : Network
   net = guest.network
 
-  derived_as : (d : Decision) → Says net frame d → (n : ℕ) → n ≡ length (built guest frame d) → 0 < n → DerivedAs n (built guest frame d) d
+  derived_as : (d : Result Decision Refusal) → Says net frame d → (n : ℕ) → n ≡ length (built guest frame d) → 0 < n → DerivedAs n (built guest frame d) d
   unfolding Says dhcp_frame_to
-  derived_as ArpReply s n e p = arp_derived net frame sized.network.gateway n e
-  derived_as (EchoReply start) s n e p =
+  derived_as (Ok ArpReply) s n e p = arp_derived net frame sized.network.gateway n e
+  derived_as (Ok (EchoReply start)) s n e p =
       let eight : 8 ≤ length (drop start frame) = subst (λ (k : ℕ). 8 ≤ length (drop k frame)) (sym s.1) s.0.whole in
       echo_derived _ n net.gateway (source_of (body frame)) (drop start frame) eight
       (packet (source_mac frame) net.gateway (source_of (body frame)) (echo (drop start frame)) guest.id 1 refl sized.network.gateway refl n e)
-  derived_as (DhcpReply xid type) s n e p =
+  derived_as (Ok (DhcpReply xid type)) s n e p =
       let t = among_8 type s.1 in
       dhcp_derived net guest.mac xid type sized.network sized.mac _ n net.gateway (broadcast_of net) sized.network.gateway refl
       (packet (source_mac frame) net.gateway (broadcast_of net) (datagram net.gateway (broadcast_of net) reply_source reply_target (reply net guest.mac xid type)) guest.id 17 refl sized.network.gateway refl n e)
       t.0 t.1
-  derived_as Drop s n e p = omega arith
-  derived_as (DropNoting xid) s n e p = omega arith
-  derived_as (Dns start len) s n e p = omega arith
-  derived_as (Relay start len) s n e p = omega arith
-  derived_as (Tcp len) s n e p = omega arith
-  derived_as (TooLong len) s n e p = omega arith
-  derived_as (CutType place) s n e p = omega arith
+  derived_as (Ok Drop) s n e p = omega arith
+  derived_as (Ok (DropNoting xid)) s n e p = omega arith
+  derived_as (Ok (Dns start len)) s n e p = omega arith
+  derived_as (Ok (Relay start len)) s n e p = omega arith
+  derived_as (Ok (Tcp len)) s n e p = omega arith
+  derived_as (Err refusal) s n e p = omega arith
 
   -- the frame that the tests have built
   pub built_derived : (n : ℕ) → n ≡ length (reply_at_ample_room guest frame) → 0 < n → DerivedAs n (reply_at_ample_room guest frame) (decision net frame)
@@ -61,14 +63,13 @@ module _ (guest : Guest) (frame : List ℕ) (sized : Sized guest) where
   built_derived = derived_as (decision net frame) (says net frame)
 
 -- whatever was decided, there is a derivation
-pub some_derivation : (n : ℕ) (reply : List ℕ) (d : Decision) → DerivedAs n reply d → (x : Derivation) × Derives reply x
-some_derivation n reply ArpReply d = (arp_derivation n, d)
-some_derivation n reply (EchoReply start) d = (icmp_derivation n, d)
-some_derivation n reply (DhcpReply xid type) d = (dhcp_derivation n, d.0)
-some_derivation n reply Drop d = absurd d
-some_derivation n reply (DropNoting xid) d = absurd d
-some_derivation n reply (Dns start len) d = absurd d
-some_derivation n reply (Relay start len) d = absurd d
-some_derivation n reply (Tcp len) d = absurd d
-some_derivation n reply (TooLong len) d = absurd d
-some_derivation n reply (CutType place) d = absurd d
+pub some_derivation : (n : ℕ) (reply : List ℕ) (d : Result Decision Refusal) → DerivedAs n reply d → (x : Derivation) × Derives reply x
+some_derivation n reply (Ok ArpReply) d = (arp_derivation n, d)
+some_derivation n reply (Ok (EchoReply start)) d = (icmp_derivation n, d)
+some_derivation n reply (Ok (DhcpReply xid type)) d = (dhcp_derivation n, d.0)
+some_derivation n reply (Ok Drop) d = absurd d
+some_derivation n reply (Ok (DropNoting xid)) d = absurd d
+some_derivation n reply (Ok (Dns start len)) d = absurd d
+some_derivation n reply (Ok (Relay start len)) d = absurd d
+some_derivation n reply (Ok (Tcp len)) d = absurd d
+some_derivation n reply (Err refusal) d = absurd d

@@ -26,6 +26,7 @@ use Rattle.wire.specs.Rfc826 as Arp
 use Rattle.wire.specs.Rfc894.{body, source_mac}
 use Rattle.rules.specs.Rules.{decision, payload}
 use Rattle.rules.specs.Seen.{EchoAsked}
+use Rattle.std.specs.Prelude.{Ok}
 use Rattle.rules.specs.declared.decision.Decision.TheVariants.{ArpReply, DhcpReply}
 use Rattle.rules.proofs.Says.{Says, says, dhcp_decided, echo_answered}
 use Rattle.laws.specs.Table.{reply_at_ample_room}
@@ -83,12 +84,12 @@ module _ (id xid : ℕ) (frame : List ℕ) (xid' type : ℕ) where
       }
 
 -- The replies to one DHCP message, which is answered whatever the network.
-pub dhcp_replies_differ : (guest : Guest) (net : Network) (frame : List ℕ) (xid type : ℕ) → Sized guest → FourBytes net → decision guest.network frame ≡ DhcpReply xid type
+pub dhcp_replies_differ : (guest : Guest) (net : Network) (frame : List ℕ) (xid type : ℕ) → Sized guest → FourBytes net → decision guest.network frame ≡ Ok (DhcpReply xid type)
     → DifferAt (dhcp_places guest xid type) (dhcp_places (on_network net guest) xid type) (reply_at_ample_room guest frame) (reply_at_ample_room (on_network net guest) frame)
 unfolding reply_at_ample_room Says Lease
 dhcp_replies_differ guest net frame xid type sized four e =
     let m = (subst (Says guest.network frame) e (says guest.network frame)).0 in
-    let e' : decision net frame ≡ DhcpReply xid type =
+    let e' : decision net frame ≡ Ok (DhcpReply xid type) =
     dhcp_decided net frame m.datagram m.from_68 m.to_67 ∙ sym (dhcp_decided guest.network frame m.datagram m.from_68 m.to_67) ∙ e in
     rw (e, e')
     (by_bytes (Lease guest.id guest.xid frame xid type) guest.network guest.mac net sized.network sized.mac four
@@ -123,7 +124,7 @@ module _ (gateway gateway' : List ℕ) (four : length gateway ≡ 4) (four' : le
 
 -- The replies to one ARP request, sent to each record's own gateway.
 pub arp_replies_differ : (guest guest' : Guest) (frame frame' : List ℕ) → Sized guest → Sized guest' → SameRequest frame frame'
-    → decision guest.network frame ≡ ArpReply → decision guest'.network frame' ≡ ArpReply
+    → decision guest.network frame ≡ Ok ArpReply → decision guest'.network frame' ≡ Ok ArpReply
     → DifferAt (arp_places guest) (arp_places guest') (reply_at_ample_room guest frame) (reply_at_ample_room guest' frame')
 unfolding reply_at_ample_room
 arp_replies_differ guest guest' frame frame' sized sized' same e e' =

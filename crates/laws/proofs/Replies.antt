@@ -13,8 +13,11 @@ use Rattle.record.specs.declared.guest.Guest.{Guest}
 use Rattle.record.specs.declared.network.Network.{Network}
 use Rattle.wire.specs.Rfc792.{echo}
 use Rattle.rules.specs.Rules.{decision, outcome}
+use Rattle.std.specs.Prelude.{Result, Ok, Err}
+use Rattle.record.specs.declared.answer.Refusal.{Refusal}
+use Rattle.record.specs.declared.answer.Refusal.TheVariants.{NoRoom, TooLong, CutType}
 use Rattle.rules.specs.declared.decision.Decision.{Decision}
-use Rattle.rules.specs.declared.decision.Decision.TheVariants.{Drop, DropNoting, ArpReply, EchoReply, DhcpReply, Dns, Relay, Tcp, TooLong, CutType}
+use Rattle.rules.specs.declared.decision.Decision.TheVariants.{Drop, DropNoting, ArpReply, EchoReply, DhcpReply, Dns, Relay, Tcp}
 use Rattle.rules.proofs.Says.{Says, says}
 use Rattle.arp_reply.proofs.ReadBack.{AnswersArp, arp_reads_back}
 use Rattle.echo_reply.proofs.ReadBack.{AnswersEcho, echo_reads_back, echo_frame_reads_back}
@@ -25,53 +28,50 @@ use Rattle.laws.proofs.Demand1.{on_one}
 use Rattle.record.proofs.Changes.{still_sized}
 
 -- what a reply is, by the decision behind it; the other decisions build none
-pub Reads : Guest → (frame reply : List ℕ) → Decision → Type 0
-Reads guest frame reply ArpReply = AnswersArp reply guest.network frame
-Reads guest frame reply (EchoReply start) =
+pub Reads : Guest → (frame reply : List ℕ) → Result Decision Refusal → Type 0
+Reads guest frame reply (Ok ArpReply) = AnswersArp reply guest.network frame
+Reads guest frame reply (Ok (EchoReply start)) =
     FrameOf reply (source_mac frame) guest.network.gateway (source_of (body frame)) guest.id 1 (echo (drop start frame)) × AnswersEcho (drop 34 reply) (drop start frame)
-Reads guest frame reply (DhcpReply xid type) = AnswersDhcp reply guest frame xid type
-Reads guest frame reply Drop = Unit
-Reads guest frame reply (DropNoting xid) = Unit
-Reads guest frame reply (Dns start len) = Unit
-Reads guest frame reply (Relay start len) = Unit
-Reads guest frame reply (Tcp len) = Unit
-Reads guest frame reply (TooLong len) = Unit
-Reads guest frame reply (CutType place) = Unit
+Reads guest frame reply (Ok (DhcpReply xid type)) = AnswersDhcp reply guest frame xid type
+Reads guest frame reply (Ok Drop) = Unit
+Reads guest frame reply (Ok (DropNoting xid)) = Unit
+Reads guest frame reply (Ok (Dns start len)) = Unit
+Reads guest frame reply (Ok (Relay start len)) = Unit
+Reads guest frame reply (Ok (Tcp len)) = Unit
+Reads guest frame reply (Err refusal) = Unit
 
 module _ (guest : Guest) (frame : List ℕ) (sized : Sized guest) where
   abbrev net : Network
   net = guest.network
 
-  built_reads : (d : Decision) → Says net frame d → Reads guest frame (built guest frame d) d
+  built_reads : (d : Result Decision Refusal) → Says net frame d → Reads guest frame (built guest frame d) d
   unfolding Reads Says
-  built_reads ArpReply s = arp_reads_back net frame sized.network.gateway
-  built_reads (EchoReply start) s =
+  built_reads (Ok ArpReply) s = arp_reads_back net frame sized.network.gateway
+  built_reads (Ok (EchoReply start)) s =
       let f = echo_frame_reads_back net guest.id frame (echo (drop start frame)) sized.network.gateway in
       let eight = subst (λ (n : ℕ). 8 ≤ length (drop n frame)) (sym s.1) s.0.whole in
       (f, rw f.carried (echo_reads_back (drop start frame) (omega (arith, eight))))
-  built_reads (DhcpReply xid type) s = dhcp_reads_back guest frame xid type sized
-  built_reads Drop s = tt
-  built_reads (DropNoting xid) s = tt
-  built_reads (Dns start len) s = tt
-  built_reads (Relay start len) s = tt
-  built_reads (Tcp len) s = tt
-  built_reads (TooLong len) s = tt
-  built_reads (CutType place) s = tt
+  built_reads (Ok (DhcpReply xid type)) s = dhcp_reads_back guest frame xid type sized
+  built_reads (Ok Drop) s = tt
+  built_reads (Ok (DropNoting xid)) s = tt
+  built_reads (Ok (Dns start len)) s = tt
+  built_reads (Ok (Relay start len)) s = tt
+  built_reads (Ok (Tcp len)) s = tt
+  built_reads (Err refusal) s = tt
 
   -- the id of a reply to an IPv4 frame
-  built_id : (d : Decision) → Says net frame d → 0 < length (built guest frame d) → type_of frame ≡ 0x0800
+  built_id : (d : Result Decision Refusal) → Says net frame d → 0 < length (built guest frame d) → type_of frame ≡ 0x0800
       → identification (body (built guest frame d)) ≡ guest.id
   unfolding Says
-  built_id ArpReply s p t = absurd (omega (arith, t, s.0))
-  built_id (EchoReply start) s p t = (echo_frame_reads_back net guest.id frame (echo (drop start frame)) sized.network.gateway).packet.id_is
-  built_id (DhcpReply xid type) s p t = (dhcp_reads_back guest frame xid type sized).framed.packet.id_is
-  built_id Drop s p t = absurd (omega arith)
-  built_id (DropNoting xid) s p t = absurd (omega arith)
-  built_id (Dns start len) s p t = absurd (omega arith)
-  built_id (Relay start len) s p t = absurd (omega arith)
-  built_id (Tcp len) s p t = absurd (omega arith)
-  built_id (TooLong len) s p t = absurd (omega arith)
-  built_id (CutType place) s p t = absurd (omega arith)
+  built_id (Ok ArpReply) s p t = absurd (omega (arith, t, s.0))
+  built_id (Ok (EchoReply start)) s p t = (echo_frame_reads_back net guest.id frame (echo (drop start frame)) sized.network.gateway).packet.id_is
+  built_id (Ok (DhcpReply xid type)) s p t = (dhcp_reads_back guest frame xid type sized).framed.packet.id_is
+  built_id (Ok Drop) s p t = absurd (omega arith)
+  built_id (Ok (DropNoting xid)) s p t = absurd (omega arith)
+  built_id (Ok (Dns start len)) s p t = absurd (omega arith)
+  built_id (Ok (Relay start len)) s p t = absurd (omega arith)
+  built_id (Ok (Tcp len)) s p t = absurd (omega arith)
+  built_id (Err refusal) s p t = absurd (omega arith)
 
   module _ (before after : List ℕ) (answer : Answer) (m : Meets (outcome guest frame (length before)) before after answer) (n : ℕ) (one : paper answer.verdict ≡ 1 ∷ n ∷ []) where
     its_bytes : take n after ≡ built guest frame (decision net frame)

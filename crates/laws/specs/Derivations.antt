@@ -1,11 +1,12 @@
 -- The derivation, by the frame grammar, of each kind of frame that we build: where its headers and payloads start and stop, in a frame of `n` bytes.
-use Rattle.std.specs.Prelude.{ℕ, ◌+◌, ◌≡◌, List, [], ◌∷◌, ◌++◌}
+use Rattle.std.specs.Prelude.{ℕ, ◌+◌, ◌≡◌, List, [], ◌∷◌, ◌++◌, Result, Ok, Err}
 use Rattle.base.specs.Bytes.{u16_at}
 use Rattle.grammar.specs.Grammar.{body, payload, pseudo_header_lem, laid, ItemList, END, item, option, Derivation, arp, other_ipv4, icmp, udp, dhcp, tcp, Derives}
 use Rattle.grammar.specs.Report.{parts, parts_of, dhcp_kind}
 use Rattle.sums.specs.Rfc1071.{SumsRight}
+use Rattle.record.specs.declared.answer.Refusal.{Refusal}
 use Rattle.rules.specs.declared.decision.Decision.{Decision}
-use Rattle.rules.specs.declared.decision.Decision.TheVariants.{Drop, DropNoting, ArpReply, EchoReply, DhcpReply, Dns, Relay, Tcp, TooLong, CutType}
+use Rattle.rules.specs.declared.decision.Decision.TheVariants.{Drop, DropNoting, ArpReply, EchoReply, DhcpReply, Dns, Relay, Tcp}
 
 -- 14 bytes of Ethernet, and to each kind what lies behind them: 20 of IPv4; 8 of ICMP or UDP; 20 of TCP and its options
 abbrev pub arp_derivation : (n : ℕ) → Derivation
@@ -45,19 +46,18 @@ pub record Summed (packet : List ℕ) : Type 0 where
 
 -- A reply of `n` bytes is derived, with the kind of the decision behind it; the message type that the reader has to report of a DHCP reply is the decision's, of
 -- the grammar's two orders of ports it has the server's, and of its two cases of a checksum the summed one. The other decisions build none.
-abbrev pub DerivedAs : (n : ℕ) (reply : List ℕ) → Decision → Type 0
-DerivedAs n reply ArpReply = Derives reply (arp_derivation n)
-DerivedAs n reply (EchoReply start) = Derives reply (icmp_derivation n)
-DerivedAs n reply (DhcpReply xid type) =
+abbrev pub DerivedAs : (n : ℕ) (reply : List ℕ) → Result Decision Refusal → Type 0
+DerivedAs n reply (Ok ArpReply) = Derives reply (arp_derivation n)
+DerivedAs n reply (Ok (EchoReply start)) = Derives reply (icmp_derivation n)
+DerivedAs n reply (Ok (DhcpReply xid type)) =
     Derives reply (dhcp_derivation n)
     × (parts_of reply (dhcp_derivation n) ≡ parts dhcp_kind (laid 0 14 n ∷ laid 14 34 n ∷ laid 34 42 n ∷ laid 42 282 n ∷ []) (type ∷ []))
     × (u16_at (payload (body reply)) 0 ≡ 67)
     × (u16_at (payload (body reply)) 2 ≡ 68)
     × Summed (body reply)
-DerivedAs n reply Drop = ⊥
-DerivedAs n reply (DropNoting xid) = ⊥
-DerivedAs n reply (Dns start len) = ⊥
-DerivedAs n reply (Relay start len) = ⊥
-DerivedAs n reply (Tcp len) = ⊥
-DerivedAs n reply (TooLong len) = ⊥
-DerivedAs n reply (CutType place) = ⊥
+DerivedAs n reply (Ok Drop) = ⊥
+DerivedAs n reply (Ok (DropNoting xid)) = ⊥
+DerivedAs n reply (Ok (Dns start len)) = ⊥
+DerivedAs n reply (Ok (Relay start len)) = ⊥
+DerivedAs n reply (Ok (Tcp len)) = ⊥
+DerivedAs n reply (Err refusal) = ⊥

@@ -21,8 +21,11 @@ use Rattle.record.specs.declared.answer.Answer.{Answer}
 use Rattle.record.specs.declared.guest.Guest.{Guest}
 use Rattle.rules.proofs.Says.{Says, says}
 use Rattle.rules.specs.Rules.{decision, outcome, outcome_of}
+use Rattle.std.specs.Prelude.{Result, Ok, Err}
+use Rattle.record.specs.declared.answer.Refusal.{Refusal}
+use Rattle.record.specs.declared.answer.Refusal.TheVariants.{NoRoom, TooLong, CutType}
 use Rattle.rules.specs.declared.decision.Decision.{Decision}
-use Rattle.rules.specs.declared.decision.Decision.TheVariants.{Drop, DropNoting, ArpReply, EchoReply, DhcpReply, Dns, Relay, Tcp, TooLong, CutType}
+use Rattle.rules.specs.declared.decision.Decision.TheVariants.{Drop, DropNoting, ArpReply, EchoReply, DhcpReply, Dns, Relay, Tcp}
 use Rattle.tcp.proofs.TcpLaws.{length_tcp_frame}
 use Rattle.tcp.specs.Builders.{data_limit_lem}
 use Rattle.tcp.specs.Rfc9293.{options, segment, tcp_frame}
@@ -75,29 +78,30 @@ module _ (asked : Asked) (guest : Guest) where
       (λ e. rw e (arp (ap (λ (n : ℕ). 1 ∷ n ∷ []) (sym long)) yes-arp type refl))
 
 -- of a guest's frame, by the decision on it
-handled : (guest : Guest) (frame : List ℕ) (room : ℕ) → Sized guest → (d : Decision) → Says guest.network frame d
+handled : (guest : Guest) (frame : List ℕ) (room : ℕ) → Sized guest → (d : Result Decision Refusal) → Says guest.network frame d
     → Comes (handling frame) guest.id (outcome_of guest frame room d)
 unfolding outcome_of Says
-handled guest frame room sized Drop s = nothing (λ z. absurd (omega (arith, z))) refl refl
-handled guest frame room sized (DropNoting xid) s = nothing (λ z. absurd (omega (arith, z))) refl refl
-handled guest frame room sized ArpReply s =
+handled guest frame room sized (Ok Drop) s = nothing (λ z. absurd (omega (arith, z))) refl refl
+handled guest frame room sized (Ok (DropNoting xid)) s = nothing (λ z. absurd (omega (arith, z))) refl refl
+handled guest frame room sized (Ok ArpReply) s =
     let r = arp_reads_back guest.network frame sized.network.gateway in
     answered_arp (handling frame) guest 42 room _ r.long (eq-eqb (type_of frame) 0x0806 s.0) r.type
-handled guest frame room sized (EchoReply start) s =
+handled guest frame room sized (Ok (EchoReply start)) s =
     let f = echo_frame_reads_back guest.network guest.id frame (echo (drop start frame)) sized.network.gateway in
     let eight = subst (λ (n : ℕ). 8 ≤ length (drop n frame)) (sym s.1) s.0.whole in
     framed (handling frame) guest (spent guest) (34 + length (drop start frame)) room _
     (λ fits. f.long ∙ ap (λ (n : ℕ). 34 + n) (length_echo (drop start frame) (omega (arith, eight))))
     (ne_eqb (type_of frame) 0x0806 (λ e. omega (arith, e, s.0.icmp.ipv4))) (omega (arith, f.long)) f.type f.packet.id_is refl
-handled guest frame room sized (DhcpReply xid type) s =
+handled guest frame room sized (Ok (DhcpReply xid type)) s =
     let f = dhcp_reads_back guest frame xid type sized in
     framed (handling frame) guest (spent (noting xid guest)) 342 room _ (λ fits. f.long)
     (ne_eqb (type_of frame) 0x0806 (λ e. omega (arith, e, s.0.datagram.udp.ipv4))) (omega (arith, f.long)) f.framed.type f.framed.packet.id_is refl
-handled guest frame room sized (Dns start len) s = nothing (λ z. absurd (omega (arith, z))) refl refl
-handled guest frame room sized (Relay start len) s = nothing (λ z. absurd (omega (arith, z))) refl refl
-handled guest frame room sized (Tcp len) s = nothing (λ z. absurd (omega (arith, z))) refl refl
-handled guest frame room sized (TooLong len) s = nothing (λ z. absurd (omega (arith, z))) refl refl
-handled guest frame room sized (CutType place) s = nothing (λ z. absurd (omega (arith, z))) refl refl
+handled guest frame room sized (Ok (Dns start len)) s = nothing (λ z. absurd (omega (arith, z))) refl refl
+handled guest frame room sized (Ok (Relay start len)) s = nothing (λ z. absurd (omega (arith, z))) refl refl
+handled guest frame room sized (Ok (Tcp len)) s = nothing (λ z. absurd (omega (arith, z))) refl refl
+handled guest frame room sized (Err (NoRoom needed)) s = absurd s
+handled guest frame room sized (Err (TooLong len)) s = nothing (λ z. absurd (omega (arith, z))) refl refl
+handled guest frame room sized (Err (CutType place)) s = nothing (λ z. absurd (omega (arith, z))) refl refl
 
 -- of a call of any kind
 pub comes : (guest : Guest) (asked : Asked) (before : List ℕ) → Sized guest → SizedArrays asked → Comes asked guest.id (promised guest asked before)
