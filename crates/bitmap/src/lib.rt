@@ -9,17 +9,17 @@ ghost use Rattle.bitmap.specs.Bitmap.{bit, blocks_of_lem, Marked, count as Bitma
 
 pub const BLOCK: usize = 8;
 
-const ALL: u64 = 0xffff_ffff_ffff_ffff;
-
 // How many blocks of eight bytes the first `n` bytes touch.
+#[tactic(auto, unfolding(crate::specs::Bitmap::blocks_of_lem))]
 pub fn blocks_of(n: u32) -> usize
     ensures { result ≡ blocks_of_lem n }
 {
-    ((n as usize) + 7) / BLOCK
+    (n as usize).div_ceil(BLOCK)
 }
 
 // How many of the blocks from `first` up to `stop` are there. It takes a turn for each word's worth of
-// blocks, also behind the last word.
+// blocks, also behind the last word. (A `for` over the words would be no plainer: the first and the last of
+// them have fewer blocks, so each turn would have to work out from where and up to where.)
 pub fn count(bits: &[u64], first: usize, stop: usize) -> usize
     ensures { result ≡ Bitmap·count (bit bits.now) first (stop - first) }
 {
@@ -28,13 +28,13 @@ pub fn count(bits: &[u64], first: usize, stop: usize) -> usize
     while at < stop {
         let low = at % 64;
         let n = within(low, stop - at);
-        found = found + ones(word_at(bits, at / 64) >> low, n);
-        at = at + n;
+        found += ones(word_at(bits, at / 64) >> low, n);
+        at += n;
     }
     found
 }
 
-// Marks the blocks from `first` up to `stop`; where the words do not reach them all, none.
+// Marks the blocks from `first` up to `stop`; where the words do not reach them all, none. (A `while` as in `count`.)
 pub fn mark(bits: &mut [u64], first: usize, stop: usize)
     ensures { Marked first stop bits.old bits.new }
 {
@@ -46,8 +46,8 @@ pub fn mark(bits: &mut [u64], first: usize, stop: usize)
         let low = at % 64;
         let n = within(low, stop - at);
         let word = at / 64;
-        bits[word] = bits[word] | (lowest(n) << low);
-        at = at + n;
+        bits[word] |= lowest(n) << low;
+        at += n;
     }
 }
 
@@ -55,19 +55,14 @@ pub fn mark(bits: &mut [u64], first: usize, stop: usize)
 pub fn clear(bits: &mut [u64])
     ensures { bits.new ≡ replicate (length bits.old) 0 }
 {
-    for i in 0..bits.len() {
-        bits[i] = 0;
-    }
+    bits.fill(0);
 }
 
 // Whether the blocks before `stop` all have a bit in so many words.
 fn reaches(len: usize, stop: usize) -> bool
     ensures { result ≡ leb stop (len * 64) }
 {
-    if stop == 0 {
-        return true;
-    }
-    (stop - 1) / 64 < len
+    stop == 0 || (stop - 1) / 64 < len
 }
 
 // How many of `left` blocks lie in one word, where the first is its bit `low`: where there are more, all that
@@ -76,10 +71,7 @@ fn within(low: usize, left: usize) -> usize
     requires { (low < 64) × (0 < left) }
     ensures { (0 < result) × (low + result ≤ 64) × (result ≤ left) × (result < left → low + result ≡ 64) }
 {
-    if left < 64 - low {
-        return left;
-    }
-    64 - low
+    left.min(64 - low)
 }
 
 // How many of the `n` lowest bits of `word` are set.
@@ -87,7 +79,7 @@ fn ones(word: u64, n: usize) -> usize
     requires { (0 < n) × (n ≤ 64) }
     ensures { (result ≡ ones_in n word) × (result ≤ n) }
 {
-    u64::count_ones(word & lowest(n)) as usize
+    (word & lowest(n)).count_ones() as usize
 }
 
 // The word whose `n` lowest bits are set, and no other.
@@ -95,15 +87,12 @@ fn lowest(n: usize) -> u64
     requires { (0 < n) × (n ≤ 64) }
     ensures { result ≡ 2 ^ n - 1 }
 {
-    ALL >> (64 - n)
+    u64::MAX >> (64 - n)
 }
 
 // The word at `i`; 0 past the end.
 fn word_at(bits: &[u64], i: usize) -> u64
     ensures { result ≡ get_or bits.now i 0 }
 {
-    if bits.len() <= i {
-        return 0;
-    }
-    bits[i]
+    bits.get(i).copied().unwrap_or(0)
 }
