@@ -31,15 +31,18 @@ pub fn put_arp_reply(gateway: [u8; 4], mac: [u8; 6], address: [u8; 4], out: &mut
 fn reply_packet(gateway: [u8; 4], mac: [u8; 6], address: [u8; 4]) -> [u8; 28]
     ensures { result ≡ packet 2 gateway_mac gateway mac address }
 {
+    let hardware = arp::ETHERNET.to_be_bytes();
+    let protocol = ethernet::IPV4.to_be_bytes();
+    let operation = arp::REPLY.to_be_bytes();
     [
-        (arp::ETHERNET / 256) as u8,
-        (arp::ETHERNET % 256) as u8,
-        (ethernet::IPV4 / 256) as u8,
-        (ethernet::IPV4 % 256) as u8,
+        hardware[0],
+        hardware[1],
+        protocol[0],
+        protocol[1],
         arp::MAC_LENGTH,
         arp::ADDRESS_LENGTH,
-        (arp::REPLY / 256) as u8,
-        (arp::REPLY % 256) as u8,
+        operation[0],
+        operation[1],
         GATEWAY_MAC[0],
         GATEWAY_MAC[1],
         GATEWAY_MAC[2],

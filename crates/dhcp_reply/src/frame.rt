@@ -4,9 +4,9 @@ ghost use Rattle.base.specs.Buffer.{put_if_fits};
 ghost use Rattle.dhcp_reply.specs.Reply.{dhcp_frame_to};
 
 use base::put;
-use datagrams::{front_sum, udp_header};
+use datagrams::UdpDatagram;
 use dhcp_message::{REPLY_LENGTH, put_reply};
-use frames::put_headers;
+use frames::{Packet, put_headers};
 use record::Network;
 use sums::sum;
 use wire::{ethernet, ipv4, udp};
@@ -38,14 +38,25 @@ pub fn put_dhcp_reply(
     if out.len() < FRAME {
         return;
     }
-    let gateway = net.gateway;
-    let broadcast = net.broadcast();
+    let src_ip = net.gateway;
+    let dst_ip = net.broadcast();
     put_reply(net, mac, xid, kind, &mut out[MESSAGE_AT..]);
     let len = (udp::HEADER + REPLY_LENGTH) as u16;
-    let front = front_sum(gateway, REPLY_SOURCE, broadcast, REPLY_TARGET, len);
-    let all = sum(front, &out[MESSAGE_AT..FRAME]);
-    let header = udp_header(REPLY_SOURCE, REPLY_TARGET, len, all);
-    put(out, DATAGRAM_AT, &header);
-    let total = (ipv4::HEADER as u16) + len;
-    put_headers(dst_mac, id, gateway, broadcast, ipv4::UDP, total, out);
+    let datagram = UdpDatagram {
+        src_ip,
+        src_port: REPLY_SOURCE,
+        dst_ip,
+        dst_port: REPLY_TARGET,
+        len,
+    };
+    let all = sum(datagram.front_sum(), &out[MESSAGE_AT..FRAME]);
+    put(out, DATAGRAM_AT, &datagram.header(all));
+    let packet = Packet {
+        total: (ipv4::HEADER as u16) + len,
+        id,
+        proto: ipv4::UDP,
+        src_ip,
+        dst_ip,
+    };
+    put_headers(dst_mac, packet, out);
 }

@@ -2,13 +2,11 @@
 // on checks by its caller.
 #![tactic(auto)]
 
-ghost use Rattle.std.specs.Prelude.{◌≡◌, ◌+◌, ◌≤◌, length};
-ghost use Rattle.base.specs.Buffer.{put as Buffer·put};
+ghost use Rattle.std.specs.Prelude.{◌≡◌};
 ghost use Rattle.echo_reply.specs.Reply.{put_echo_lem};
-ghost use Rattle.wire.specs.Rfc792.{echo};
 
 use base::put;
-use frames::put_headers;
+use frames::{Packet, put_headers};
 use sums::checksum;
 use wire::{ethernet, ipv4};
 
@@ -40,31 +38,18 @@ pub fn put_echo_reply(
     if out.len() < MESSAGE_AT + len {
         return;
     }
-    put_headers(
-        dst_mac,
+    let packet = Packet {
+        total: (ipv4::HEADER + len) as u16,
         id,
+        proto: ipv4::ICMP,
         src_ip,
         dst_ip,
-        ipv4::ICMP,
-        (ipv4::HEADER + len) as u16,
-        out,
-    );
-    put_echo(request, out);
-}
-
-// The request's bytes are copied once and summed once: with type, code and checksum 0 the message's
-// sum is that of the bytes behind them.
-fn put_echo(request: &[u8], out: &mut [u8])
-    requires in_bounds { 4 ≤ length request.now }
-    requires request_in_bounds { 34 + length request.now ≤ length out.old }
-    ensures { out.new ≡ Buffer·put 34 (echo request.now) out.old }
-{
+    };
+    put_headers(dst_mac, packet, out);
+    // The request's bytes are copied once and summed once: with type, code and checksum 0 the message's sum is that of the
+    // bytes behind them.
     let copied = &request[CHANGED..];
-    let sum = checksum(copied);
-    put(
-        out,
-        MESSAGE_AT,
-        &[0, 0, (sum / 256) as u8, (sum % 256) as u8],
-    );
+    let sum = checksum(copied).to_be_bytes();
+    put(out, MESSAGE_AT, &[0, 0, sum[0], sum[1]]);
     put(out, MESSAGE_AT + CHANGED, copied);
 }

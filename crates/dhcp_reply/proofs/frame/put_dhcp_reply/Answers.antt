@@ -22,5 +22,5 @@ returns c =
     let four : FourBytes a.net = record { gateway = search rules; guest = search rules; mask = search rules } in
     let six : length a.mac ≡ 6 = omega (arith, c.well_formed) in
     let six' : length a.dst_mac ≡ 6 = omega (arith, c.well_formed) in
-    frame_put a.net a.mac a.id a.dst_mac a.xid a.kind four six six' a.out.now _ _ _ _ _ _ _ _ c.if-out-lt-FRAME.false c.broadcast-broadcast.ensures c.put_reply.ensures refl
-    c.front_sum-front.ensures c.sum-all.ensures c.udp_header-header.ensures c.put.ensures c.put_headers.ensures
+    frame_put a.net a.mac a.id a.dst_mac a.xid a.kind four six six' a.out.now _ _ _ _ _ _ _ _ c.if-out-lt-FRAME.false c.broadcast-dst_ip.ensures c.put_reply.ensures refl
+    c.front_sum.ensures c.sum-all.ensures c.header.ensures c.put.ensures c.put_headers.ensures
