@@ -1,6 +1,6 @@
 -- What the list and item readers answer, one law for each way their tests end. A list that starts at `at` goes on where its first item ends, so what
 -- is answered for the rest is what is to be answered for all of it.
-use Prim.Native.Nat.{ℕ, suc, ◌+◌, ◌≤◌, ◌<◌}
+use Prim.Native.Nat.{ℕ, suc, ◌+◌, ◌-◌, ◌≤◌, ◌<◌}
 use mathlib.Core.Path.{◌≡◌, refl, ap, sym, subst, ◌∙◌}
 use mathlib.Core.Bool.{Bool, true, false}
 use mathlib.Core.List.{List, [], ◌∷◌, ◌++◌}
@@ -11,7 +11,9 @@ use lib.Dec.{lit≤}
 use lib.ListN.{length, drop, take, replicate, length-drop, drop_of_length-le, take-append-drop}
 use lib.Seq.{drop-cons, drop-drop, length-take-le}
 use borrow.Author.Tests.{ne_eqb, eqb-false}
-use Rattle.std.proofs.Common.{Option, Some, None}
+use Rattle.std.proofs.Common.{Option, Some, None, if◌then◌else◌}
+use Rattle.base.specs.Tells.{Tells}
+use Rattle.base.proofs.Lists.{from_on}
 use Rattle.std.proofs.lemmas.Option.{none-some, same_Some}
 use Rattle.std.proofs.lemmas.List.{ext_get_or, length-replicate, get_or-replicate}
 use Rattle.std.proofs.lemmas.List.Elements.{All-replicate}
@@ -98,7 +100,7 @@ module _ (s : List ℕ) (at : ℕ) (seen : Option ℕ) (inside : at < length s) 
     ends_here (item first rest) (pads more e l) = absurd (eqb-false 255 0 refl (sym end ∙ e))
     ends_here (item first rest) (opts len m more least most e short l) = absurd (let no_end : u8_at s at ≤ 254 = most in omega arith)
 
-    pub end_refused : (AllZero (drop (at + 1) s) → ⊥) → Listed s at seen None
+    end_refused : (AllZero (drop (at + 1) s) → ⊥) → Listed s at seen None
     unfolding ListGives
     end_refused f = nothing s at seen (λ type g. f (ends_here g.0 (start g.0 g.1)).0)
 
@@ -106,13 +108,18 @@ module _ (s : List ℕ) (at : ℕ) (seen : Option ℕ) (inside : at < length s) 
     unfolding IsList
     end_list z = (refl, here ∙ ap (λ (n : ℕ). n ∷ drop (at + 1) s) end ∙ ap (λ (l : List ℕ). 255 ∷ l) (all_zeros (drop (at + 1) s) z))
 
-    pub end_taken : AllZero (drop (at + 1) s) → Listed s at seen seen
+    end_taken : AllZero (drop (at + 1) s) → Listed s at seen seen
     unfolding Listed ListGives options53
     end_taken z = answers seen refl
       where
         answers : (r : Option ℕ) → r ≡ seen → Listed s at seen r
         answers None e = λ type g. none-some type (e ∙ (ends_here g.0 (start g.0 g.1)).1 type g.2)
         answers (Some type) e = (END at (length (drop (at + 1) s)), end_list z, before (sym e) refl)
+
+    -- what `zeros` tells of the rest, as the code takes it
+    pub end_told : (b : Bool) → Tells b (AllZero (take (length s - (at + 1)) (drop (at + 1) s))) → Listed s at seen (if b then seen else None)
+    end_told true z = end_taken (subst AllZero (from_on (at + 1) s) z)
+    end_told false f = end_refused (λ z. f (subst AllZero (sym (from_on (at + 1) s)) z))
 
   -- a pad
   module _ (is-pad : u8_at s at ≡ 0) where

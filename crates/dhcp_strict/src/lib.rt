@@ -3,7 +3,7 @@
 // 2,465 deep.
 #![tactic(auto)]
 
-ghost use Rattle.std.specs.Prelude.{◌≡◌, ◌+◌, ◌≤◌, ◌<◌, length, drop};
+ghost use Rattle.std.specs.Prelude.{◌≡◌, ◌+◌, ◌≤◌, ◌<◌, length, if◌then◌else◌};
 ghost use Rattle.base.specs.Bytes.{u8_at};
 ghost use Rattle.grammar.specs.Grammar.{DHCPHeader};
 ghost use Rattle.dhcp_strict.specs.MessageRead.{MessageRead};
@@ -28,7 +28,11 @@ pub fn read_message(frame: &[u8], at: usize) -> Option<u8>
     if !has_header(message) {
         return None;
     }
-    read_list(frame, at + FIXED, None)
+    let mut message_type = None;
+    if !read_list(frame, at + FIXED, &mut message_type) {
+        return None;
+    }
+    message_type
 }
 
 // Whether what stands before the list is right, and the length of the whole message.
@@ -58,32 +62,30 @@ fn has_header(message: &[u8]) -> bool
     u32be(message, COOKIE) == MAGIC_COOKIE
 }
 
-// The message type by the list from `at` on, which runs to the end of the frame; `seen` is what an option 53
-// before it said. None where there is no such list, or not one type.
+// Whether a list runs from `at` to the end of the frame, in which an option 53 is the only one: `seen` is what one
+// before it said, and then what one in it says. Tried and slower: an Option handed back by value keeps the calls
+// from being compiled into a loop (1,229 items in 9.2 µs, and here in 0.4).
 #[cycle(read_item_read_list)]
-fn read_list(frame: &[u8], at: usize, seen: Option<u8>) -> Option<u8>
+fn read_list(frame: &[u8], at: usize, seen: &mut Option<u8>) -> bool
     requires { length frame.now ≤ at + 1232 }
-    ensures { Listed frame.now at seen result }
+    ensures { Listed frame.now at seen.old (if result then seen.new else None) }
 {
     if frame.len() <= at {
-        return None;
+        return false;
     }
     if frame[at] != END {
         return read_item(frame, at, seen);
     }
-    if !zeros(&frame[at + 1..]) {
-        return None;
-    }
-    seen
+    zeros(&frame[at + 1..])
 }
 
 // The same where the list starts with an item.
 #[cycle(read_item_read_list)]
-fn read_item(frame: &[u8], at: usize, seen: Option<u8>) -> Option<u8>
+fn read_item(frame: &[u8], at: usize, seen: &mut Option<u8>) -> bool
     requires inside { at < length frame.now }
     requires within_frame { length frame.now ≤ at + 1232 }
     requires not_end { u8_at frame.now at ≡ 255 → ⊥ }
-    ensures { Listed frame.now at seen result }
+    ensures { Listed frame.now at seen.old (if result then seen.new else None) }
 {
     let code = frame[at];
     if code == PAD {
@@ -91,29 +93,30 @@ fn read_item(frame: &[u8], at: usize, seen: Option<u8>) -> Option<u8>
     }
     let left = frame.len() - at;
     if left < 2 {
-        return None;
+        return false;
     }
     let len = usize::from(frame[at + 1]);
     if left - 2 < len {
-        return None;
+        return false;
     }
     if code != MESSAGE_TYPE {
         return read_list(frame, at + 2 + len, seen);
     }
     if seen.is_some() {
-        return None;
+        return false;
     }
     if len != 1 {
-        return None;
+        return false;
     }
     let value = frame[at + 2];
     if value == 0 {
-        return None;
+        return false;
     }
     if LAST_TYPE < value {
-        return None;
+        return false;
     }
-    read_list(frame, at + 3, Some(value))
+    *seen = Some(value);
+    read_list(frame, at + 3, seen)
 }
 
 fn zeros(bytes: &[u8]) -> bool

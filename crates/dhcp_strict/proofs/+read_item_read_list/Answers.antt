@@ -1,20 +1,17 @@
 -- `read_item` and `read_list`, which call each other, meet their contracts: each answer is a law of `Listing`.
 use Prim.Native.Nat.{ℕ, ◌+◌}
-use mathlib.Core.Path.{sym, subst, ap}
-use mathlib.Core.Bool.{not}
+use mathlib.Core.Path.{sym, subst}
 use native.Mathlib.Omega.{arith}
-use Rattle.std.proofs.Common.{Some}
+use Rattle.std.proofs.Common.{Some, None, if◌then◌else◌}
 use Rattle.base.specs.Bytes.{u8_at}
 use Rattle.dhcp_strict.specs.helpers.Listed.{Listed}
-use Rattle.base.proofs.Telling.{rest_not, rest_yes}
-use Rattle.dhcp_strict.specs.helpers.AllZero.{AllZero}
-use Rattle.dhcp_strict.proofs.Listing.{past, end_refused, end_taken, pad_on, option_cut, option_over, other_on, second_type, type_length, type_small, type_large, type_on}
+use Rattle.dhcp_strict.proofs.Listing.{past, end_told, pad_on, option_cut, option_over, other_on, second_type, type_length, type_small, type_large, type_on}
 use Rattle.dhcp_strict.proofs.+read_item_read_list.Goals as goal
 
 -- AN ITEM
 pub read_item-returns-then-code-eq-PAD : goal.read_item-returns-then-code-eq-PAD
 read_item-returns-then-code-eq-PAD t c =
-    pad_on _ _ _ c.requires.inside c.if-code-eq-PAD.true c.read_list.result c.read_list.ensures
+    pad_on _ _ _ c.requires.inside c.if-code-eq-PAD.true _ c.read_list.ensures
 
 pub read_item-returns-then-left-lt2 : goal.read_item-returns-then-left-lt2
 read_item-returns-then-left-lt2 t c =
@@ -27,7 +24,7 @@ read_item-returns-then-left-len t c =
 pub read_item-returns-then-code-ne-MESSAGE_TYPE : goal.read_item-returns-then-code-ne-MESSAGE_TYPE
 read_item-returns-then-code-ne-MESSAGE_TYPE t c =
     other_on _ _ _ c.requires.inside c.if-code-eq-PAD.false c.requires.not_end _ (sym c.from-len.ensures) (omega arith) (omega arith)
-    c.if-code-ne-MESSAGE_TYPE.true c.read_list-then-code-ne-MESSAGE_TYPE.result c.read_list-then-code-ne-MESSAGE_TYPE.ensures
+    c.if-code-ne-MESSAGE_TYPE.true _ c.read_list-then-code-ne-MESSAGE_TYPE.ensures
 
 pub read_item-returns-then-is_some : goal.read_item-returns-then-is_some
 read_item-returns-then-is_some t c =
@@ -48,17 +45,14 @@ read_item-returns-then-value-gt-LAST_TYPE t c =
 pub read_item-returns : goal.read_item-returns
 read_item-returns t c =
     type_on _ _ _ c.requires.inside c.if-code-eq-PAD.false c.requires.not_end _ (sym c.from-len.ensures) c.if-code-ne-MESSAGE_TYPE.false (omega arith)
-    (grind (arith, c.if-is_some.ensures)) c.if-len-ne1.false (omega arith) (omega arith) c.read_list-2.result
-    (subst (λ (n : ℕ). Listed c.args.frame.now n (Some (u8_at c.args.frame.now (c.args.at + 2))) c.read_list-2.result) (omega (arith, c.if-len-ne1.false)) c.read_list-2.ensures)
+    (grind (arith, c.if-is_some.ensures)) c.if-len-ne1.false (omega arith) (omega arith) _
+    (subst (λ (n : ℕ). Listed c.args.frame.now n (Some (u8_at c.args.frame.now (c.args.at + 2))) (if c.read_list-2.result then c.read_list-2.new.seen else None))
+    (omega (arith, c.if-len-ne1.false)) c.read_list-2.ensures)
 
 -- A LIST
 pub read_list-returns-then-frame-at : goal.read_list-returns-then-frame-at
 read_list-returns-then-frame-at t c = past _ _ _ c.if-frame-at.true
 
-pub read_list-returns-then-not-zeros : goal.read_list-returns-then-not-zeros
-read_list-returns-then-not-zeros t c =
-    end_refused _ _ _ c.if-frame-at.false c.if-frame-at-2.false (rest_not AllZero (c.args.at + 1) c.args.frame.now c.zeros.result c.zeros.ensures (ap not c.if-not-zeros.true))
-
 pub read_list-returns : goal.read_list-returns
 read_list-returns t c =
-    end_taken _ _ _ c.if-frame-at.false c.if-frame-at-2.false (rest_yes AllZero (c.args.at + 1) c.args.frame.now c.zeros.result c.zeros.ensures (ap not c.if-not-zeros.false))
+    end_told _ _ _ c.if-frame-at.false c.if-frame-at-2.false c.zeros.result c.zeros.ensures
