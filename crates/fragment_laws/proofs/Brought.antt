@@ -1,14 +1,15 @@
 -- Nothing stale: each byte of a payload that is complete since the store was empty was brought by a fit fragment of that datagram. Call by call the store means what it says.
 use Prim.Native.Nat.{ℕ, ◌*◌, ◌/◌, ◌≤◌, ◌<◌}
 use mathlib.Core.Path.{◌≡◌, refl, ap, sym, subst, ◌∙◌}
-use mathlib.Core.Bool.{Bool, true, false, and-eq-true_iff, ◌||◌, cond}
+use mathlib.Core.Bool.{Bool, true, false, cond}
 use mathlib.Core.Logic.{inl, inr}
 use mathlib.Core.List.{List, [], ◌∷◌}
 use native.Mathlib.Omega.{arith}
 use borrow.Author.Tests.{not-false, eqb-true}
-use lib.Dec.{eqb, ltb}
+use lib.Dec.{eqb}
 use lib.ListN.{length, drop}
 use Rattle.std.specs.Prelude.{Option, Result, Ok, Err}
+use Rattle.std.proofs.lemmas.Grind.{common_steps}
 use Rattle.bitmap.specs.Bitmap.{bit, count, having, blocks_of_lem}
 use Rattle.wire.specs.Rfc894.{body}
 use Rattle.fragments.specs.Promises.{Effect, Takes}
@@ -48,11 +49,7 @@ one_more (Complete d n) bytes bits frame came m = (λ place there h. inr (m.0 pl
 -- equal in its four fields, equal as a name
 same_name : (d e : Datagram) → same_datagram d e ≡ true → d ≡ e
 unfolding same_datagram
-same_name d e h =
-    let a = (and-eq-true_iff (eqb d.source e.source) _).0 h in
-    let b = (and-eq-true_iff (eqb d.target e.target) _).0 a.1 in
-    let c = (and-eq-true_iff (eqb d.protocol e.protocol) _).0 b.1 in
-    λ i. record { source = eqb-true d.source e.source a.0 i; target = eqb-true d.target e.target b.0 i; protocol = eqb-true d.protocol e.protocol c.0 i; id = eqb-true d.id e.id c.1 i }
+same_name d e h = grind (arith, common_steps)
 
 -- what is known of the datagram at hand before a fragment of it is stored
 before : (s : State) (d : Datagram) (bytes bits : List ℕ) (came : List (List ℕ)) → is_held s d ≡ false → Means s bytes bits came → Knows d (known_end_lem s) bytes bits came
@@ -72,8 +69,7 @@ covers frame fit k place false e h l u = (omega (arith, at_block (body frame)), 
 earlier : (f : Fragment) (there : ℕ → ℕ) (k : Option ℕ) (place : ℕ) (t : Bool) → f.last ≡ t → wrong_end f k there ≡ false → BeforeEnd (cond t (Option.Some (end_of f)) k) place → BeforeEnd k place
 unfolding wrong_end
 earlier f there Option.None place t e right h = tt
-earlier f there (Option.Some n) place true e right h = let w : (true || ltb n (end_of f)) ≡ false = rw e at right in cc
-earlier f there (Option.Some n) place false e right h = h
+earlier f there (Option.Some n) place t e right h = grind (arith, common_steps)
 
 -- a fragment is written
 module _ (store : Store) (frame : List ℕ) (call : Call) (fit : Fit frame) (w : Written store frame call) where

@@ -8,6 +8,7 @@ use native.Mathlib.Omega.{arith}
 use borrow.Author.Tests.{le-ltb, eq-eqb, ne_eqb}
 use lib.ListN.{length, get_or}
 use Rattle.std.specs.Prelude.{Option, Result, Ok}
+use Rattle.std.proofs.lemmas.Grind.{common_steps}
 use Rattle.bitmap.specs.Bitmap.{bit, count, blocks_of_lem}
 use Rattle.wire.specs.Rfc894.{body}
 use Rattle.fragments.specs.Answer.{stored, complete, said_for}
@@ -104,7 +105,7 @@ module _ (d : Datagram) (end : ℕ) (there : ℕ → ℕ) (todo : List (List ℕ
 -- a datagram is the same as itself
 same_as_itself : (d : Datagram) → same_datagram d d ≡ true
 unfolding same_datagram
-same_as_itself d = simp (eq-eqb d.source d.source refl, eq-eqb d.target d.target refl, eq-eqb d.protocol d.protocol refl, eq-eqb d.id d.id refl)
+same_as_itself d = grind (arith, common_steps)
 
 -- the call that takes the next fragment
 module _ (d : Datagram) (end : ℕ) (store : Store) (frame : List ℕ) (todo : List (List ℕ)) (c : Coming d end store (frame ∷ todo)) where

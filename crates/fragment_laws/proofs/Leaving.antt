@@ -1,19 +1,17 @@
 -- A call that stores no fragment leaves the store as it was: a frame that passes by, and every refusal.
 use Prim.Native.Nat.{ℕ}
-use mathlib.Core.Path.{◌≡◌, refl, sym, subst, ◌∙◌}
-use mathlib.Core.Bool.{Bool, true, false, cond}
+use mathlib.Core.Path.{◌≡◌, refl, subst, ◌∙◌}
 use mathlib.Core.List.{List}
-use lib.Dec.{eqb}
 use lib.ListN.{length}
 use Rattle.std.specs.Prelude.{Option, Result, Ok, Err}
-use Rattle.bitmap.specs.Bitmap.{bit, count, blocks_of_lem}
-use Rattle.fragments.specs.Answer.{stored, complete, refused, said_for}
+use native.Mathlib.Omega.{arith}
+use Rattle.std.proofs.lemmas.Grind.{common_steps}
+use Rattle.bitmap.specs.Bitmap.{bit}
+use Rattle.fragments.specs.Answer.{refused, said_for}
 use Rattle.fragments.specs.Promises.{Untouched, Effect, Takes}
-use Rattle.fragments.specs.Outcomes.{Outcome, settled, outcome_of}
+use Rattle.fragments.specs.Outcomes.{settled, outcome_of}
 use Rattle.fragment_rules.specs.Rules.{ruling}
-use Rattle.fragment_packets.specs.declared.packet.Datagram.{Datagram}
 use Rattle.fragment_rules.specs.declared.answer.Refusal.{Refusal}
-use Rattle.fragment_rules.specs.declared.answer.State.TheVariants.{Filling, Complete}
 use Rattle.fragment_packets.specs.declared.packet.Fragment.{Fragment}
 use Rattle.fragment_rules.specs.declared.ruling.Ruling.{Ruling}
 use Rattle.fragments.proofs.Ruled as Ruled
@@ -51,12 +49,6 @@ module _ (store : Store) (frame : List ℕ) (call : Call) (asked : call.asked �
   -- "Refusals, .. each leaving the store unchanged"
   pub refusal_leaves : (n : ℕ) → said_for call.taken.answer ≡ refused n → after call ≡ store
   unfolding outcome_of settled
-  refusal_leaves n said = leaves_alone (λ f end e. go f end (sym (subst (λ (r : Result Ruling Refusal). said_for call.taken.answer ≡ (outcome_of store.state (bit store.bits) r).said) e (takes store frame call asked k).answers) ∙ said))
-    where
-      told : (t : Bool) (d : Datagram) (end : ℕ) → (cond {A = Outcome} t (record { said = complete; state = Complete d end }) (record { said = stored; state = Filling d (Option.Some end) })).said ≡ refused n → ⊥
-      told true d end e = cc
-      told false d end e = cc
-
-      go : (f : Fragment) (end : Option ℕ) → (outcome_of store.state (bit store.bits) (Ok (Ruling.Write f end))).said ≡ refused n → ⊥
-      go f Option.None e = cc
-      go f (Option.Some end) e = told (eqb (count _ 0 (blocks_of_lem end)) (blocks_of_lem end)) f.datagram end e
+  refusal_leaves n said =
+      let answers = (takes store frame call asked k).answers in
+      leaves_alone (λ f end e. grind (arith, common_steps))

@@ -1,12 +1,12 @@
 -- The promises leave one answer: `said_for` is one-to-one, and what a ruling does to a store is fixed byte by byte and bit by bit.
 use Prim.Native.Nat.{ℕ}
-use mathlib.Core.Bool.{cond}
 use mathlib.Core.List.{List}
-use mathlib.Core.Path.{◌≡◌, refl, ap, sym, ◌∙◌}
-use lib.Dec.{eqb}
+use mathlib.Core.Path.{◌≡◌, ap, sym, ◌∙◌}
 use lib.ListN.{length}
+use native.Mathlib.Omega.{arith}
+use Rattle.std.proofs.lemmas.Grind.{common_steps}
 use Rattle.bitmap.specs.Bitmap.{bit}
-use Rattle.fragments.specs.Answer.{Said, passed, stored, complete, released, refused, said_for}
+use Rattle.fragments.specs.Answer.{said_for}
 use Rattle.fragments.specs.Promises.{Effect, Does, Releases}
 use Rattle.fragment_rules.specs.declared.answer.Answer.{Answer}
 use Rattle.fragment_rules.specs.declared.answer.Refusal.{Refusal}
@@ -16,29 +16,10 @@ use Rattle.fragments.specs.declared.answer.Taken.{Taken}
 use Rattle.fragment_rules.specs.declared.ruling.Ruling.{Ruling}
 use Rattle.fragment_rules.specs.declared.ruling.Ruling.TheVariants.{Pass, Write}
 
--- the answer that the document says so
-answer_of : Said → Result Answer Refusal
-answer_of passed = Ok Answer.Passed
-answer_of stored = Ok Answer.Stored
-answer_of complete = Ok Answer.Complete
-answer_of released = Ok Answer.Released
-answer_of (refused n) = Err (cond (eqb n 10) Refusal.Unfit (cond (eqb n 11) Refusal.Held (cond (eqb n 12) Refusal.Overlap Refusal.WrongEnd)))
-
--- it gives the answer back
-answer_back : (a : Result Answer Refusal) → answer_of (said_for a) ≡ a
-unfolding said_for answer_of
-answer_back (Ok Answer.Passed) = refl
-answer_back (Ok Answer.Stored) = refl
-answer_back (Ok Answer.Complete) = refl
-answer_back (Ok Answer.Released) = refl
-answer_back (Err Refusal.Unfit) = refl
-answer_back (Err Refusal.Held) = refl
-answer_back (Err Refusal.Overlap) = refl
-answer_back (Err Refusal.WrongEnd) = refl
-
 -- different answers are said differently
 pub said_one_to_one : (a b : Result Answer Refusal) → said_for a ≡ said_for b → a ≡ b
-said_one_to_one a b e = sym (answer_back a) ∙ ap answer_of e ∙ answer_back b
+unfolding said_for
+said_one_to_one a b e = grind (arith, common_steps)
 
 -- so the same said and the same state are one answer
 same_taken : (t u : Taken) → said_for t.answer ≡ said_for u.answer → t.state ≡ u.state → t ≡ u

@@ -22,11 +22,11 @@ pub struct Call<'a> {
 }
 
 // Answers that may change the store; with every other it has to stay as it was.
-const STORED: u8 = 1;
+const STORED: u8 = Answer::Stored as u8;
 
-const COMPLETE: u8 = 2;
+const COMPLETE: u8 = Answer::Complete as u8;
 
-pub const RELEASED: u8 = 3;
+pub const RELEASED: u8 = Answer::Released as u8;
 
 const STORE_BYTES: usize = 65515;
 
@@ -47,6 +47,7 @@ impl<'a> Store<'a> {
     // Whether the answer and the payload handed out are the expected ones.
     fn answers(&mut self, call: Call<'_>) -> bool {
         let bytes = vectors::front(self.bytes, bytes_lent(call.lent));
+        // A part of a field that is an array is taken in two steps: of one the check makes no proof.
         let words = &mut self.bits[..];
         let bits = &mut words[..words_lent(call.lent)];
         match call.frame {

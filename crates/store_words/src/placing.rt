@@ -11,7 +11,8 @@ use wire::{ethernet, ipv4};
 
 const TOTAL_LENGTH: usize = ethernet::HEADER + ipv4::TOTAL_LENGTH;
 
-// The start and the length, in `frame` on passed and in the `lent` bytes of the store on complete.
+// The start and the length, in `frame` on passed and in the `lent` bytes of the store on complete; for every
+// other answer 0 and 0, as C has them.
 #[tactic(auto, unfolding(crate::specs::Reports::place_at))]
 pub fn place(taken: Taken, frame: &[u8], lent: usize) -> [usize; 2]
     ensures { result ≡ place_of taken.answer taken.state frame.now lent }

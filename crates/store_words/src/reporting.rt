@@ -1,4 +1,4 @@
-// What came of a call, reported: the words where the state is a new one, and the number.
+// What came of a call, reported: the words where the state is a new one, and the number, as C has them.
 ghost use Rattle.std.specs.Prelude.{◌≡◌};
 ghost use Rattle.store_words.specs.Reports.{Reports};
 ghost use Rattle.store_words.specs.Words.{state_of, words_of};
