@@ -5,12 +5,12 @@ ghost use Rattle.std.specs.Prelude.{length};
 ghost use Rattle.record.specs.Answer.{Meets};
 ghost use Rattle.rules.specs.Rules.{outcome};
 
-use record::{Guest, Verdict};
+use record::{Guest, Refusal, Verdict};
 use slirp::handle;
 
 // What a frame of this guest gets. The promise is `handle`'s, of the verdict and of the record as it stands behind
 // the reference afterwards.
-pub fn send(guest: &mut Guest, frame: &[u8], reply: &mut [u8]) -> Verdict
+pub fn send(guest: &mut Guest, frame: &[u8], reply: &mut [u8]) -> Result<Verdict, Refusal>
     ensures { Meets
         (outcome guest.old frame.now (length reply.old))
         reply.old reply.new (record { verdict = result; guest = guest.new }) }

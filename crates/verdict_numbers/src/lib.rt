@@ -5,26 +5,22 @@ ghost use Rattle.std.specs.Prelude.{[], ◌∷◌, ◌≡◌};
 ghost use Rattle.record.specs.Answer.{paper};
 ghost use Rattle.verdict_numbers.specs.Numbers.{padded};
 
-use record::Verdict;
+use record::{Refusal, Verdict};
 
-pub fn numbered(verdict: Verdict, values: &mut [usize; 2]) -> u32
+#[tactic(auto, unfolding(record::specs::Answer::paper, crate::specs::Numbers::padded))]
+pub fn numbered(verdict: Result<Verdict, Refusal>, values: &mut [usize; 2]) -> u32
     ensures { result ∷ values.new ≡ padded (paper verdict) }
 {
-    match verdict {
-        Verdict::Drop => told(0, 0, 0, values),
-        Verdict::Reply(n) => told(1, n, 0, values),
-        Verdict::Dns { start, len } => told(2, start, len, values),
-        Verdict::Relay { start, len } => told(3, start, len, values),
-        Verdict::Tcp(len) => told(4, len, 0, values),
-        Verdict::NoRoom(needed) => told(5, needed, 0, values),
-        Verdict::TooLong(len) => told(6, len, 0, values),
-        Verdict::CutType(place) => told(7, place, 0, values),
-    }
-}
-
-fn told(number: u32, first: usize, second: usize, values: &mut [usize; 2]) -> u32
-    ensures { result ∷ values.new ≡ number ∷ first ∷ second ∷ [] }
-{
+    let (number, first, second) = match verdict {
+        Ok(Verdict::Drop) => (0, 0, 0),
+        Ok(Verdict::Reply(n)) => (1, n, 0),
+        Ok(Verdict::Dns { start, len }) => (2, start, len),
+        Ok(Verdict::Relay { start, len }) => (3, start, len),
+        Ok(Verdict::Tcp(len)) => (4, len, 0),
+        Err(Refusal::NoRoom(needed)) => (5, needed, 0),
+        Err(Refusal::TooLong(len)) => (6, len, 0),
+        Err(Refusal::CutType(place)) => (7, place, 0),
+    };
     *values = [first, second];
     number
 }
