@@ -1,6 +1,6 @@
 // DHCP lines: the walk over a message's options, the types of replies, and the reply.
 use crate::answers;
-use options::Found;
+use options::CutAt;
 use wire::bytes::{byte_at, bytes_at, u16be, u32be};
 
 const CUT: u8 = 7;
@@ -29,10 +29,11 @@ pub fn walks(line: &[u8]) -> bool {
     )
 }
 
-fn is_found(found: Found, number: u8, value: usize) -> bool {
+// A line has 0 for a message without a type.
+fn is_found(found: Result<Option<u8>, CutAt>, number: u8, value: usize) -> bool {
     match found {
-        Found::MessageType(kind) => (number == 0) & ((kind as usize) == value),
-        Found::CutAt(place) => (number == CUT) & (place == value),
+        Ok(kind) => (number == 0) & (usize::from(kind.unwrap_or(0)) == value),
+        Err(CutAt(place)) => (number == CUT) & (place == value),
     }
 }
 
@@ -59,13 +60,13 @@ fn is_found_before(line: &[u8], len: u16, end: u16) -> bool {
     )
 }
 
-// For each message type the type of the reply to it.
+// For each message type the type of the reply to it, 0 where there is none.
 pub fn reply_types(line: &[u8]) -> bool {
     if line.len() != 257 {
         return false;
     }
     for kind in 0..=255u8 {
-        if dhcp_message::reply_type(kind) != byte_at(line, 1 + (kind as usize)) {
+        if dhcp_message::reply_type(kind).unwrap_or(0) != byte_at(line, 1 + (kind as usize)) {
             return false;
         }
     }

@@ -131,7 +131,7 @@ fn decide_udp(net: Network, frame: &[u8]) -> Result<Decision, Refusal>
     if u16be(payload, udp::SOURCE) == udp::DHCP_CLIENT && destination == udp::DHCP_SERVER {
         return decide_dhcp(data);
     }
-    if ip_dst(frame) == net.gateway && destination == udp::DNS {
+    if destination == udp::DNS && ip_dst(frame) == net.gateway {
         return Ok(Decision::Dns { start, len });
     }
     Ok(Decision::Relay { start, len })

@@ -19,9 +19,9 @@ returns-then-destination-eq-DHCP_SERVER c =
     let t = dhcp_there net frame _ p (omega (arith, c.in-Some.ensures.lookup.0.0)) (omega arith) (omega arith) (omega arith) (omega arith) in
     c.decide_dhcp.ensures ∙ ap dhcp_decision d ∙ t
 
-pub returns-then-destination-eq-DNS : goal.returns-then-destination-eq-DNS
+pub returns-then-eq : goal.returns-then-eq
 unfolding udp_decision
-returns-then-destination-eq-DNS c =
+returns-then-eq c =
     let frame = c.args.frame.now in
     let p = payload_there frame c.in-Some.payload.now _ (omega arith) c.in-Some.ensures.lookup.0.2 in
     let m : c.min.result ≡ data_end (payload frame) = grind (arith, ends_at) in
