@@ -19,7 +19,6 @@ use Rattle.dhcp_reply.specs.Reply.{reply_source, reply_target, dhcp_frame_to}
 use Rattle.rules.specs.Rules.{decision}
 use Rattle.std.specs.Prelude.{Result, Ok, Err}
 use Rattle.record.specs.declared.answer.Refusal.{Refusal}
-use Rattle.record.specs.declared.answer.Refusal.TheVariants.{NoRoom, TooLong, CutType}
 use Rattle.rules.specs.declared.decision.Decision.{Decision}
 use Rattle.rules.specs.declared.decision.Decision.TheVariants.{Drop, DropNoting, ArpReply, EchoReply, DhcpReply, Dns, Relay, Tcp}
 use Rattle.rules.proofs.Says.{Says, says}
