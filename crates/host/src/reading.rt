@@ -5,7 +5,7 @@ ghost use Rattle.reader.specs.Reported.{layer_of};
 
 use reader::{Layer, Reading, read};
 
-// C's thirteen places have room for four layers, and zeros where there are fewer.
+// C's thirteen places have room for four layers, and are 0 where there are fewer.
 const ABSENT: Layer = Layer {
     header: 0,
     payload: 0,
@@ -21,28 +21,36 @@ pub extern "C" fn yavoledu_read(frame: &[u8], parts: &mut [usize; 13]) -> u32
 {
     match read(frame) {
         Some(Reading::Arp { ethernet }) => lay(1, ethernet, ABSENT, ABSENT, ABSENT, 0, parts),
-        Some(Reading::Icmp {
-            ethernet,
-            ip,
-            message,
-        }) => lay(2, ethernet, ip, message, ABSENT, 0, parts),
-        Some(Reading::Udp {
-            ethernet,
-            ip,
-            datagram,
-        }) => lay(3, ethernet, ip, datagram, ABSENT, 0, parts),
-        Some(Reading::Dhcp {
-            ethernet,
-            ip,
-            datagram,
-            message,
-            message_type,
-        }) => lay(4, ethernet, ip, datagram, message, message_type, parts),
-        Some(Reading::Tcp {
-            ethernet,
-            ip,
-            segment,
-        }) => lay(5, ethernet, ip, segment, ABSENT, 0, parts),
+        Some(
+            Reading::Icmp {
+                ethernet,
+                ip,
+                message,
+            },
+        ) => lay(2, ethernet, ip, message, ABSENT, 0, parts),
+        Some(
+            Reading::Udp {
+                ethernet,
+                ip,
+                datagram,
+            },
+        ) => lay(3, ethernet, ip, datagram, ABSENT, 0, parts),
+        Some(
+            Reading::Dhcp {
+                ethernet,
+                ip,
+                datagram,
+                message,
+                message_type,
+            },
+        ) => lay(4, ethernet, ip, datagram, message, message_type, parts),
+        Some(
+            Reading::Tcp {
+                ethernet,
+                ip,
+                segment,
+            },
+        ) => lay(5, ethernet, ip, segment, ABSENT, 0, parts),
         Some(Reading::OtherIpv4 { ethernet, ip }) => {
             lay(6, ethernet, ip, ABSENT, ABSENT, 0, parts)
         }
@@ -60,8 +68,9 @@ fn lay(
     message_type: u8,
     parts: &mut [usize; 13],
 ) -> u32
-    ensures { (result ≡ kind)
-        × (parts.new ≡ places (layer_of a ∷ layer_of b ∷ layer_of c ∷ layer_of d ∷ []) ++ message_type ∷ []) }
+    ensures kind { result ≡ kind }
+    ensures parts { parts.new
+        ≡ places (layer_of a ∷ layer_of b ∷ layer_of c ∷ layer_of d ∷ []) ++ message_type ∷ [] }
 {
     *parts = [
         a.header,
@@ -76,7 +85,7 @@ fn lay(
         d.header,
         d.payload,
         d.stop,
-        message_type as usize,
+        usize::from(message_type),
     ];
     kind
 }

@@ -1,8 +1,8 @@
 -- `reading::lay` meets its contract.
-use mathlib.Core.Path.{refl}
+use Rattle.std.proofs.Common.{rules}
 use Rattle.host.specs.Parts.{places}
 use Rattle.host.proofs.reading.lay.Goals as goal
 
-pub returns : goal.returns
+pub returns-clause-parts : goal.returns-clause-parts
 unfolding places
-returns c = (refl, refl)
+returns-clause-parts c = search rules

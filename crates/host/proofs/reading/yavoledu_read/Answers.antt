@@ -1,34 +1,34 @@
 -- `reading::yavoledu_read` meets its contract, kind by kind.
-use mathlib.Core.Path.{refl}
+use Rattle.std.proofs.Common.{Some, refl, ap, ◌∙◌}
 use Rattle.host.proofs.Telling.{reported_of}
 use Rattle.host.specs.Parts.{kind_number, number_of, places, places_of}
 use Rattle.reader.specs.Reported.{report_of}
 use Rattle.host.proofs.reading.yavoledu_read.Goals as goal
 
-pub returns-in-Arp : goal.returns-in-Arp
+pub returns-in-Some-Arp : goal.returns-in-Some-Arp
 unfolding report_of number_of kind_number places_of places
-returns-in-Arp c = reported_of c.read.ensures c.in-Arp.is c.lay.ensures.0 c.lay.ensures.1
+returns-in-Some-Arp c = reported_of c.read.ensures (c.in-Some-Arp.is ∙ ap Some c.in-Some-Arp.field-0-is) c.lay.ensures.kind c.lay.ensures.parts
 
-pub returns-in-Icmp : goal.returns-in-Icmp
+pub returns-in-Some-Icmp : goal.returns-in-Some-Icmp
 unfolding report_of number_of kind_number places_of places
-returns-in-Icmp c = reported_of c.read.ensures c.in-Icmp.is c.lay-in-Icmp.ensures.0 c.lay-in-Icmp.ensures.1
+returns-in-Some-Icmp c = reported_of c.read.ensures (c.in-Some-Icmp.is ∙ ap Some c.in-Some-Icmp.field-0-is) c.lay-in-Some-Icmp.ensures.kind c.lay-in-Some-Icmp.ensures.parts
 
-pub returns-in-Udp : goal.returns-in-Udp
+pub returns-in-Some-Udp : goal.returns-in-Some-Udp
 unfolding report_of number_of kind_number places_of places
-returns-in-Udp c = reported_of c.read.ensures c.in-Udp.is c.lay-in-Udp.ensures.0 c.lay-in-Udp.ensures.1
+returns-in-Some-Udp c = reported_of c.read.ensures (c.in-Some-Udp.is ∙ ap Some c.in-Some-Udp.field-0-is) c.lay-in-Some-Udp.ensures.kind c.lay-in-Some-Udp.ensures.parts
 
-pub returns-in-Dhcp : goal.returns-in-Dhcp
+pub returns-in-Some-Dhcp : goal.returns-in-Some-Dhcp
 unfolding report_of number_of kind_number places_of places
-returns-in-Dhcp c = reported_of c.read.ensures c.in-Dhcp.is c.lay-in-Dhcp.ensures.0 c.lay-in-Dhcp.ensures.1
+returns-in-Some-Dhcp c = reported_of c.read.ensures (c.in-Some-Dhcp.is ∙ ap Some c.in-Some-Dhcp.field-0-is) c.lay-in-Some-Dhcp.ensures.kind c.lay-in-Some-Dhcp.ensures.parts
 
-pub returns-in-Tcp : goal.returns-in-Tcp
+pub returns-in-Some-Tcp : goal.returns-in-Some-Tcp
 unfolding report_of number_of kind_number places_of places
-returns-in-Tcp c = reported_of c.read.ensures c.in-Tcp.is c.lay-in-Tcp.ensures.0 c.lay-in-Tcp.ensures.1
+returns-in-Some-Tcp c = reported_of c.read.ensures (c.in-Some-Tcp.is ∙ ap Some c.in-Some-Tcp.field-0-is) c.lay-in-Some-Tcp.ensures.kind c.lay-in-Some-Tcp.ensures.parts
 
-pub returns-in-OtherIpv4 : goal.returns-in-OtherIpv4
+pub returns-in-Some-OtherIpv4 : goal.returns-in-Some-OtherIpv4
 unfolding report_of number_of kind_number places_of places
-returns-in-OtherIpv4 c = reported_of c.read.ensures c.in-OtherIpv4.is c.lay-in-OtherIpv4.ensures.0 c.lay-in-OtherIpv4.ensures.1
+returns-in-Some-OtherIpv4 c = reported_of c.read.ensures (c.in-Some-OtherIpv4.is ∙ ap Some c.in-Some-OtherIpv4.field-0-is) c.lay-in-Some-OtherIpv4.ensures.kind c.lay-in-Some-OtherIpv4.ensures.parts
 
-pub returns-in-Outside : goal.returns-in-Outside
+pub returns-in-None : goal.returns-in-None
 unfolding report_of number_of places_of
-returns-in-Outside c = reported_of c.read.ensures c.in-Outside.is refl refl
+returns-in-None c = reported_of c.read.ensures c.in-None.is refl refl
