@@ -1,11 +1,9 @@
 -- Document 02, 8/13, proved: each call builds an IPv4 frame with the record's id and moves the id on, or does neither; the rest is the law of a counter over any run.
 use Prim.Native.Nat.{ℕ, ◌+◌, ◌%◌, ◌≤◌, ◌<◌}
-use mathlib.Core.Bool.{Bool, true, false, ◌&&◌, not, cond}
 use mathlib.Core.Path.{◌≡◌, refl, ap, sym, ◌∙◌}
 use mathlib.Core.List.{List, [], ◌∷◌, ◌++◌}
 use native.Mathlib.Omega.{arith}
 use borrow.Author.Tests.{ne_eqb}
-use lib.Dec.{eqb}
 use lib.ListN.{length, get_or}
 use Rattle.base.proofs.Counting.{Counted, none, one, Counter, counter_in_16_bits, counter_moved, stretch_counts_on, stretch_leaves, whole_counts_on, counts_anew}
 use Rattle.base.proofs.Runs.{as_if_alone}
@@ -18,7 +16,7 @@ use Rattle.wire.specs.Rfc894.{type_of}
 use Rattle.runs.proofs.Isolation.{settled}
 use Rattle.runs.proofs.Written.{Comes, nothing, ipv4, arp, comes, built_of_it}
 use Rattle.runs.specs.Calls.{Asked, promised, Call, Answered, left_by, whose, bytes_built}
-use Rattle.runs.specs.Ids.{Typed, Run, record_behind, RunOfMany, ipv4_in, ipv4_built, id_in, ids, StretchOf, asks_by_arp, frames_built}
+use Rattle.runs.specs.Ids.{Typed, Run, record_behind, RunOfMany, ipv4_in, ipv4_built, id_in, ids, StretchOf, frames_built}
 
 -- an IPv4 frame is found by its type, and an ARP reply isn't
 found : (built : List ℕ) → type_of built ≡ 0x0800 → ipv4_in built ≡ built ∷ []
