@@ -1,17 +1,16 @@
 -- The Rust on a guest frame, test by test beside document 01's order of tests: what its run comes to, for each decision.
-use Prim.Native.Nat.{ℕ, ◌+◌, ◌*◌, ◌-◌, ◌%◌, ◌≤◌, min}
-use mathlib.Core.Path.{◌≡◌, refl, ap, ◌∙◌}
+use Prim.Native.Nat.{ℕ, ◌+◌, ◌-◌, ◌%◌, ◌≤◌, min}
+use mathlib.Core.Path.{◌≡◌, refl, ap}
 use mathlib.Core.Bool.{Bool, true, false, not, ◌&&◌, cond}
 use mathlib.Core.Logic.{◌⊎◌, inl, inr}
 use mathlib.Core.List.{List, [], ◌∷◌}
 use native.Mathlib.Omega.{arith}
-use native.Mathlib.Nat.{add_assoc}
 use borrow.Author.Tests.{ltb-true, ltb-false, eqb-true, not-false}
 use lib.Dec.{ltb, eqb}
 use lib.ListN.{length, take, drop, length-drop}
 use lib.Seq.{drop-drop}
-use Rattle.base.specs.Bytes.{u8_at, u32_at, bytes_at}
-use Rattle.wire.proofs.Reading.{four_bytes}
+use Rattle.base.specs.Bytes.{u32_at, bytes_at}
+use native.Mathlib.Numerals.{towards_suc}
 use Rattle.wire.specs.Rfc768.{source_port, target_port, length_field}
 use Rattle.wire.specs.Rfc791.{protocol_of, source_of, target_of}
 use Rattle.wire.specs.Rfc792.{message_type_lem}
@@ -70,10 +69,7 @@ both P true r r' d d' f g = f refl
 both P false r r' d d' f g = g refl
 
 from_be : (s : List ℕ) (at : ℕ) → u32_from_be (bytes_at s at 4) ≡ u32_at s at
-from_be s at = ap u32_from_be (four_bytes s at) ∙ sums
-  where
-    sums : u8_at s at * 16777216 + u8_at s (at + 1) * 65536 + u8_at s (at + 2) * 256 + u8_at s (at + 3) ≡ u32_at s at
-    sums = rw (add_assoc at 2 1) (omega arith)
+from_be s at = simp towards_suc (omega arith)
 
 pub same_array_lem : (s t : List ℕ) → same_array s t ≡ same s t
 unfolding same_array
