@@ -6,7 +6,7 @@
 //   83 STEPS     a replay that is spoiled on purpose: it is right to find it wrong
 use crate::calls::Store;
 use crate::train::Train;
-use crate::{replays, rows, spaces};
+use crate::{replays, rows};
 use vectors::Tally;
 use wire::bytes::byte_at;
 
@@ -32,6 +32,11 @@ const ORIGINS: u8 = 4;
 
 // A store's 65,515 bytes and one more: some steps lend it too large.
 const STORE_BYTES: usize = 65516;
+
+// Its 128 words, and one more for the same reason.
+const STORE_WORDS: usize = 129;
+
+const RUBBISH: u64 = 0xa5a5_a5a5_a5a5_a5a5;
 
 impl<'a> Run<'a> {
     pub fn new(pool: &'a mut [u8], ends: &'a mut [usize]) -> Run<'a> {
@@ -81,7 +86,7 @@ impl<'a> Run<'a> {
         let mut store = Store {
             state: replays::rubbish(),
             bytes: vectors::front(&mut space, STORE_BYTES),
-            bits: spaces::rubbish_bits(),
+            bits: [RUBBISH; STORE_WORDS],
         };
         let replay = replays::replayed(self.tally, line, &self.train, &mut store)?;
         if self.origin == 0 {
