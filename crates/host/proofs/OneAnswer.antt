@@ -12,14 +12,16 @@ use mathlib.Core.Bool.{cond}
 use Rattle.record.specs.declared.answer.Answer.{Answer}
 use Rattle.record.specs.declared.guest.Guest.{Guest}
 use Rattle.record.specs.declared.answer.Verdict.{Verdict}
-use Rattle.record.specs.declared.answer.Verdict.TheVariants.{Drop, Reply, Dns, Relay, Tcp, NoRoom, TooLong, CutType}
+use Rattle.record.specs.declared.answer.Verdict.TheVariants.{Drop, Reply, Dns, Relay, Tcp}
+use Rattle.record.specs.declared.answer.Refusal.{Refusal}
+use Rattle.record.specs.declared.answer.Refusal.TheVariants.{NoRoom, TooLong, CutType}
 use Rattle.grammar.proofs.Exact.{one_report}
 use Rattle.grammar.specs.Grammar.{Layer, laid}
 use Rattle.grammar.specs.Report.{Report, arp_kind, icmp_kind, udp_kind, dhcp_kind, tcp_kind, other_ipv4_kind, parts, refused}
 use Rattle.host.specs.Parts.{Reported, kind_number, number_of, places, places_of}
 use Rattle.host.specs.Exported.{Built, Sent, Told}
 use Rattle.verdict_numbers.specs.Numbers.{padded}
-use Rattle.std.proofs.Common.{Option, Some, None}
+use Rattle.std.proofs.Common.{Option, Some, None, Result, Ok, Err}
 use Rattle.reader.specs.Reported.{report_of}
 use Rattle.reader.specs.declared.parts.Reading.{Reading}
 use Rattle.reader.specs.declared.parts.Reading.TheVariants.{Arp, Icmp, Udp, Dhcp, Tcp as Reading-as-Tcp, OtherIpv4}
@@ -27,19 +29,19 @@ use Rattle.rules.proofs.Settled.{outcome_settled}
 use Rattle.rules.specs.Rules.{outcome}
 
 -- the verdict, back from the number and the values
-untold : (v : Verdict) → verdict_of (padded (paper v)) ≡ v
+untold : (v : Result Verdict Refusal) → verdict_of (padded (paper v)) ≡ v
 unfolding paper padded verdict_of
-untold Drop = refl
-untold (Reply n) = refl
-untold (Dns start len) = refl
-untold (Relay start len) = refl
-untold (Tcp n) = refl
-untold (NoRoom needed) = refl
-untold (TooLong len) = refl
-untold (CutType place) = refl
+untold (Ok Drop) = refl
+untold (Ok (Reply n)) = refl
+untold (Ok (Dns start len)) = refl
+untold (Ok (Relay start len)) = refl
+untold (Ok (Tcp n)) = refl
+untold (Err (NoRoom needed)) = refl
+untold (Err (TooLong len)) = refl
+untold (Err (CutType place)) = refl
 
 -- different verdicts are told differently
-pub told_one_to_one : (v w : Verdict) → padded (paper v) ≡ padded (paper w) → v ≡ w
+pub told_one_to_one : (v w : Result Verdict Refusal) → padded (paper v) ≡ padded (paper w) → v ≡ w
 told_one_to_one v w e = sym (untold v) ∙ ap verdict_of e ∙ untold w
 
 -- a layer, back from its three places
@@ -68,7 +70,7 @@ report_back_lem before (Some (OtherIpv4 ethernet ip)) = refl
 report_back_lem before None = refl
 
 -- Two answers of `send`.
-pub send_answers_once : (guest : Guest) (frame before after after' : List ℕ) (v v' : Verdict) (g g' : Guest)
+pub send_answers_once : (guest : Guest) (frame before after after' : List ℕ) (v v' : Result Verdict Refusal) (g g' : Guest)
     → Meets (outcome guest frame (length before)) before after (record { verdict = v; guest = g })
     → Meets (outcome guest frame (length before)) before after' (record { verdict = v'; guest = g' }) → (v ≡ v') × (g ≡ g') × (after ≡ after')
 send_answers_once guest frame before after after' v v' g g' m m' =

@@ -8,7 +8,7 @@ ghost use Rattle.sums.specs.Rfc1071.{checksum as Rfc1071·checksum};
 
 use datagrams::make_udp_payload;
 use frames::make_ip_frame;
-use record::{Answer, Guest, Network};
+use record::{Answer, Guest, Network, Verdict};
 use sums::checksum;
 use tcp::{Endpoints, make_tcp_frame};
 use verdict_numbers::numbered;
@@ -46,10 +46,8 @@ pub extern "C" fn yavoledu_make_udp_payload(
         (make_udp_payload_lem src_ip.now dst_ip.now src_port dst_port «data».now (length out.old))
         out.old out.new result values.new }
 {
-    numbered(
-        make_udp_payload(*src_ip, src_port, *dst_ip, dst_port, data, out),
-        values,
-    )
+    let written = make_udp_payload(*src_ip, src_port, *dst_ip, dst_port, data, out);
+    numbered(written.map(Verdict::Reply), values)
 }
 
 #[unsafe(no_mangle)]
@@ -94,10 +92,8 @@ pub extern "C" fn yavoledu_checksum(data: &[u8]) -> u16
 fn stored(answer: Answer, id: &mut u16, values: &mut [usize; 2]) -> u32
     ensures { (result ∷ values.new ≡ padded (paper answer.verdict)) × (id.new ≡ answer.guest.id) }
 {
-    let after = answer.guest;
-    *id = after.id;
-    let verdict = answer.verdict;
-    numbered(verdict, values)
+    *id = answer.guest.id;
+    numbered(answer.verdict, values)
 }
 
 // Some record with this id: a builder looks at nothing else of it.

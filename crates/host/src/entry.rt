@@ -16,6 +16,5 @@ pub extern "C" fn yavoledu_send(
     ensures { Sends guest.old frame.now
         reply.old reply.new result values.new guest.new }
 {
-    let verdict = send(guest, frame, reply);
-    numbered(verdict, values)
+    numbered(send(guest, frame, reply), values)
 }
