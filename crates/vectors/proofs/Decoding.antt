@@ -1,11 +1,10 @@
 -- Where a line starts, ends and has a comment: `decode` reads the characters that count.
-use Rattle.std.proofs.Common.{◌≡◌, ℕ, ◌+◌, ◌<◌, ◌≤◌, min, true, List, length, take, drop, sym, refl, ◌∙◌, arith, drop_of_length-le, take-take}
+use Rattle.std.proofs.Common.{◌≡◌, ℕ, ◌+◌, ◌<◌, ◌≤◌, min, Option, Some, List, length, take, drop, sym, refl, ◌∙◌, arith, drop_of_length-le, take-take}
 use native.Mathlib.Nat.{min-eq_right, min-le_left, min-le_right, le-min}
 use Rattle.vectors.specs.Lines.{index_of, up_to, signs_at, next_line, digits, pairs, are_bytes, bytes_of, read_of, line_at, ReadInto, Decoded}
-use Rattle.vectors.specs.declared.lines.Read.{Read}
 
 -- past the text's end there is an empty line
-pub past_end : (text : List ℕ) (at room : ℕ) (line : List ℕ) → length text ≤ at → Decoded text at room line (record { len = 0; next = length text; whole = true })
+pub past_end : (text : List ℕ) (at room : ℕ) (line : List ℕ) → length text ≤ at → Decoded text at room line (record { len = Some 0; next = length text })
 unfolding line_at read_of bytes_of signs_at up_to next_line digits pairs are_bytes
 past_end text at room line h =
     record {
@@ -32,7 +31,7 @@ module _
       let d = drop at text in
       rw stops (sym (take-take (index_of 35 (up_to 10 d)) (index_of 10 d) d (omega (arith, e, stops))))
 
-  pub inside : at < length text → stop ≤ end → (room : ℕ) (line : List ℕ) (read : Read) (next : ℕ) → ReadInto room (take stop (drop at text)) line read → next ≡ min (at + end + 1) (length text) → Decoded text at room line (record { len = read.len; next = next; whole = read.whole })
+  pub inside : at < length text → stop ≤ end → (room : ℕ) (line : List ℕ) (read : Option ℕ) (next : ℕ) → ReadInto room (take stop (drop at text)) line read → next ≡ min (at + end + 1) (length text) → Decoded text at room line (record { len = read; next = next })
   unfolding line_at next_line
   inside h before room line read next r n =
       record {

@@ -1,3 +1,2 @@
 mod Reading
 mod Decoding
-mod Comparing

@@ -1,9 +1,8 @@
 -- Reading a line's characters one by one: what was read and what is left make up the whole.
-use Rattle.std.proofs.Common.{◌≡◌, ℕ, zero, suc, ◌+◌, ◌-◌, ◌*◌, ◌<◌, ◌≤◌, Bool, true, false, cond, eqb, List, [], ◌∷◌, ◌++◌, length, get_or, take, drop, set, refl, ◌∙◌, append_assoc, append-nil, add-one, arith, length-set, drop_of_length-le, length-take-le, drop-cons, take-suc-set, lt-ltb, eq-eqb, ne_eqb}
+use Rattle.std.proofs.Common.{◌≡◌, ℕ, zero, suc, ◌+◌, ◌-◌, ◌*◌, ◌<◌, ◌≤◌, Bool, true, false, Option, Some, None, cond, eqb, List, [], ◌∷◌, ◌++◌, length, get_or, take, drop, set, refl, ◌∙◌, append_assoc, append-nil, add-one, arith, length-set, drop_of_length-le, length-take-le, drop-cons, take-suc-set, lt-ltb, eq-eqb, ne_eqb}
 use native.Mathlib.Nat.{sub-zero}
 use borrow.Author.Tests.{eqb-false}
 use Rattle.vectors.specs.Lines.{digit, digits, pairs, are_bytes, bytes_of, read_of, ReadInto}
-use Rattle.vectors.specs.declared.lines.Read.{Read}
 
 -- the first digit of a byte, where one waits for its second
 unfoldable pub waiting : ℕ → List ℕ
@@ -133,11 +132,11 @@ module _ {signs line : List ℕ} {room len high i : ℕ} (s : Halfway signs room
     broken w = s.valid ∙ rw (drop_of_length-le signs over) (half (room - len) high w)
 
 -- The answers: no bytes, or as many as the digits make.
-module _ (room : ℕ) (signs line : List ℕ) (r : Read) where
-  pub refused : r ≡ record { len = 0; whole = false } → are_bytes room (digits signs) ≡ false → ReadInto room signs line r
+module _ (room : ℕ) (signs line : List ℕ) (r : Option ℕ) where
+  pub refused : r ≡ None → are_bytes room (digits signs) ≡ false → ReadInto room signs line r
   unfolding read_of bytes_of
   refused e v = rw e (record { says = simp v; bytes = simp v; fits = omega arith })
 
-  pub taken : (len : ℕ) → len ≤ room → length line ≡ room → r ≡ record { len = len; whole = true } → (are_bytes room (digits signs) ≡ true) × (pairs (digits signs) ≡ take len line) → ReadInto room signs line r
+  pub taken : (len : ℕ) → len ≤ room → length line ≡ room → r ≡ Some len → (are_bytes room (digits signs) ≡ true) × (pairs (digits signs) ≡ take len line) → ReadInto room signs line r
   unfolding read_of bytes_of
   taken len h l e v = rw e (record { says = simp (v.0, v.1, length-take-le len line (omega arith)); bytes = simp (v.0, v.1); fits = h })

@@ -1,8 +1,8 @@
 -- A line of text as bytes: two hexadecimal digits to a byte. Spaces count for nothing, and `#` starts a comment.
-use Rattle.std.specs.Prelude.{◌≡◌, ℕ, zero, suc, ◌+◌, ◌-◌, ◌*◌, ◌≤◌, min, Bool, true, false, cond, ◌&&◌, List, [], ◌∷◌, length, take, drop, ◌==◌, nat_le, nat_lt}
+use Rattle.std.specs.Prelude.{◌≡◌, ℕ, zero, suc, ◌+◌, ◌-◌, ◌*◌, ◌≤◌, min, Bool, true, false, Option, Some, None, cond, ◌&&◌, List, [], ◌∷◌, length, take, drop, ◌==◌, nat_le, nat_lt}
 use Rattle.std.specs.List.{position_or_len}
 use Rattle.vectors.specs.declared.lines.Line.{Line}
-use Rattle.vectors.specs.declared.lines.Read.{Read}
+use Rattle.std.specs.Option.{unwrap_or}
 
 -- where the first `c` stands, or the length where there is none
 abbrev pub index_of : ℕ → List ℕ → ℕ
@@ -46,26 +46,28 @@ are_bytes (suc room) (h ∷ l ∷ t) = nat_lt h 16 && (nat_lt l 16 && are_bytes 
 unfoldable pub bytes_of : ℕ → List ℕ → List ℕ
 bytes_of room signs = cond (are_bytes room (digits signs)) (pairs (digits signs)) []
 
--- what there is to say of a line's characters
-unfoldable pub read_of : ℕ → List ℕ → Read
-read_of room signs = record { len = length (bytes_of room signs); whole = are_bytes room (digits signs) }
+-- what there is to say of a line's characters: how many bytes they make, or None where they are no bytes
+unfoldable pub read_of : ℕ → List ℕ → Option ℕ
+read_of room signs = cond (are_bytes room (digits signs)) (Some (length (bytes_of room signs))) None
 
 -- what there is to say of the line that starts at `at`
 unfoldable pub line_at : List ℕ → ℕ → ℕ → Line
-line_at text at room =
-    let read = read_of room (signs_at text at) in
-    record { len = read.len; next = next_line text at; whole = read.whole }
+line_at text at room = record { len = read_of room (signs_at text at); next = next_line text at }
+
+-- how many bytes were read: none where it is not said
+abbrev pub count_of : Option ℕ → ℕ
+count_of len = unwrap_or len 0
 
 -- The promise of reading a line's characters into a buffer.
-pub record ReadInto (room : ℕ) (signs line : List ℕ) (r : Read) : Type 0 where
+pub record ReadInto (room : ℕ) (signs line : List ℕ) (r : Option ℕ) : Type 0 where
   pub says : r ≡ read_of room signs
-  pub bytes : take r.len line ≡ bytes_of room signs
-  pub fits : r.len ≤ room
+  pub bytes : take (count_of r) line ≡ bytes_of room signs
+  pub fits : count_of r ≤ room
 
 -- The promise of `decode`: what it says of the line, and the line's bytes at the start of the buffer. The last three follow from them.
 pub record Decoded (text : List ℕ) (at room : ℕ) (line : List ℕ) (r : Line) : Type 0 where
   pub says : r ≡ line_at text at room
-  pub bytes : take r.len line ≡ bytes_of room (signs_at text at)
-  pub fits : r.len ≤ room
+  pub bytes : take (count_of r.len) line ≡ bytes_of room (signs_at text at)
+  pub fits : count_of r.len ≤ room
   pub within : r.next ≤ length text
   pub moves : min (at + 1) (length text) ≤ r.next

@@ -2,6 +2,7 @@
 // for calls, payloads, records, and the tally of what agreed.
 #![tactic(auto)]
 
+mod driver;
 mod lines;
 mod payload;
 mod records;
@@ -9,9 +10,10 @@ mod slices;
 mod spaces;
 mod tally;
 
+pub use driver::{Judge, replay};
 pub use lines::{Line, SPOILED, decode};
 pub use payload::lay_payload;
 pub use records::{network, same_network, same_record};
 pub use slices::{front, part, rest};
-pub use spaces::{clear_space, is_marked, large_space, marked_space};
+pub use spaces::{MARK, filled, is_marked};
 pub use tally::{Tally, print};

@@ -1,30 +1,22 @@
 // A line of text as bytes: two hexadecimal digits to a byte. Spaces count for nothing, and `#` starts
 // a comment.
-ghost use Rattle.std.specs.Prelude.{◌≡◌, ◌+◌, ◌≤◌, min, false, length};
+ghost use Rattle.std.specs.Prelude.{◌≡◌, ◌+◌, ◌≤◌, ◌<◌, min, length, IfSome};
+ghost use Rattle.std.specs.Option.{unwrap_or};
 ghost use Rattle.vectors.specs.Lines.{Decoded, ReadInto, digit, index_of};
 
 use crate::slices::rest;
 
 #[derive(Clone, Copy)]
 pub struct Line {
-    // How many bytes stand at the start of the line's buffer: none where the line is not whole.
-    pub len: usize,
+    // How many bytes stand at the start of the line's buffer; None where the line is not whole: it has
+    // another character, half a byte, or more than the buffer holds.
+    pub len: Option<usize>,
     // Where the next line starts.
     pub next: usize,
-    // False where the line has another character, half a byte, or more than the buffer holds.
-    pub whole: bool,
-}
-
-#[derive(Clone, Copy)]
-struct Read {
-    len: usize,
-    whole: bool,
 }
 
 // A line's first byte is its kind. With this bit set the line is spoiled: it is right to find it wrong.
 pub const SPOILED: u8 = 0x80;
-
-const NO_DIGIT: u8 = 16;
 
 // Reads the line that starts at `at` into `line`; past the text's end that is an empty one.
 pub fn decode(text: &[u8], at: usize, line: &mut [u8]) -> Line
@@ -32,19 +24,16 @@ pub fn decode(text: &[u8], at: usize, line: &mut [u8]) -> Line
 {
     if text.len() <= at {
         return Line {
-            len: 0,
+            len: Some(0),
             next: text.len(),
-            whole: true,
         };
     }
     let left = rest(text, at);
     let end = find(left, b'\n');
     let stop = find(&left[..end], b'#');
-    let read = read_bytes(&left[..stop], line);
     Line {
-        len: read.len,
+        len: read_bytes(&left[..stop], line),
         next: behind(at + end, text.len()),
-        whole: read.whole,
     }
 }
 
@@ -59,62 +48,46 @@ pub fn find(s: &[u8], byte: u8) -> usize
 fn behind(end: usize, len: usize) -> usize
     ensures { result ≡ min (end + 1) len }
 {
-    if end < len { end + 1 } else { len }
+    end.saturating_add(1).min(len)
 }
 
-// `high` is a byte's first digit, or NO_DIGIT where none waits for its second.
-fn read_bytes(signs: &[u8], line: &mut [u8]) -> Read
+// `high` is a byte's first digit, where one waits for its second.
+fn read_bytes(signs: &[u8], line: &mut [u8]) -> Option<usize>
     ensures { ReadInto (length line.old) signs.now line.new result }
 {
     let mut len = 0;
-    let mut high = NO_DIGIT;
-    let mut i = 0;
-    while i < signs.len() {
-        let sign = signs[i];
-        i += 1;
-        if sign == b' ' {
+    let mut high: Option<u8> = None;
+    for sign in signs {
+        if *sign == b' ' {
             continue;
         }
-        let low = digit_of(sign);
-        if low == NO_DIGIT {
-            return no_bytes();
-        }
+        let low = digit_of(*sign)?;
         if line.len() <= len {
-            return no_bytes();
+            return None;
         }
-        if high == NO_DIGIT {
-            high = low;
-            continue;
-        }
-        line[len] = high * 16 + low;
-        len += 1;
-        high = NO_DIGIT;
-    }
-    if high == NO_DIGIT {
-        return Read {
-            len: len,
-            whole: true,
+        high = match high {
+            Some(first) => {
+                line[len] = first * 16 + low;
+                len += 1;
+                None
+            }
+            None => Some(low),
         };
     }
-    no_bytes()
-}
-
-fn no_bytes() -> Read
-    ensures { result ≡ record { len = 0; whole = false } }
-{
-    Read {
-        len: 0,
-        whole: false,
+    match high {
+        None => Some(len),
+        Some(_) => None,
     }
 }
 
-fn digit_of(sign: u8) -> u8
-    ensures value { result ≡ digit sign }
-    ensures upper_bound { result ≤ 16 }
+#[tactic(auto, unfolding(crate::specs::Lines::digit))]
+fn digit_of(sign: u8) -> Option<u8>
+    ensures value { unwrap_or result 16 ≡ digit sign }
+    ensures upper_bound { IfSome result (λ d. d < 16) }
 {
     match sign {
-        b'0'..=b'9' => sign - b'0',
-        b'a'..=b'f' => sign - b'a' + 10,
-        _ => NO_DIGIT,
+        b'0'..=b'9' => Some(sign - b'0'),
+        b'a'..=b'f' => Some(sign - b'a' + 10),
+        _ => None,
     }
 }

@@ -8,29 +8,25 @@ pub fn lay_payload(written: &[u8], seed: u8, out: &mut [u8])
     ensures { Laid written.now seed out.old out.new }
 {
     let mut ruled = seed % 251;
-    let mut i = 0;
-    while i < out.len() {
+    for i in 0..out.len() {
         out[i] = payload_byte(seed, wire::bytes::byte_at(written, i), ruled);
         ruled = next_ruled(ruled);
-        i += 1;
     }
 }
 
 fn payload_byte(seed: u8, written: u8, ruled: u8) -> u8
     ensures { result ≡ payload_byte_lem seed written ruled }
 {
-    if seed == 0 {
-        return written;
+    match seed {
+        0 => written,
+        0xff => 0xff,
+        _ => ruled,
     }
-    if seed == 0xff {
-        return 0xff;
-    }
-    ruled
 }
 
 fn next_ruled(ruled: u8) -> u8
     requires { ruled < 251 }
     ensures { result ≡ (ruled + 17) % 251 }
 {
-    (((ruled as u16) + 17) % 251) as u8
+    ((u16::from(ruled) + 17) % 251) as u8
 }

@@ -21,11 +21,11 @@ pub fn network() -> Network
 pub fn same_record(a: Guest, b: Guest) -> bool
     ensures { (result ≡ true) ↔ (a ≡ b) }
 {
-    (a.mac == b.mac) & (a.id == b.id) & (a.xid == b.xid) & same_network(a.network, b.network)
+    a == b
 }
 
 pub fn same_network(a: Network, b: Network) -> bool
     ensures { (result ≡ true) ↔ (a ≡ b) }
 {
-    (a.gateway == b.gateway) & (a.guest == b.guest) & (a.mask == b.mask) & (a.lease == b.lease)
+    a == b
 }

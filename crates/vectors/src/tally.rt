@@ -1,8 +1,7 @@
 // How many cases of each row agreed and how many did not.
-ghost use Rattle.std.specs.Prelude.{◌≡◌, ◌≤◌, length};
+ghost use Rattle.std.specs.Prelude.{◌≡◌};
 ghost use Rattle.vectors.specs.Count.{empty, counted_in};
 
-use crate::lines::find;
 use std::io;
 
 const ROWS: usize = 32;
@@ -24,6 +23,7 @@ impl Tally {
     }
 
     // Past the last row nothing is counted.
+    #[tactic(auto, unfolding(crate::specs::Count::counted_in, crate::specs::Count::one_more_lem))]
     pub fn counted(mut self, row: usize, agrees: bool) -> Tally
         ensures { result ≡ counted_in self row agrees }
     {
@@ -31,9 +31,9 @@ impl Tally {
             return self;
         }
         if agrees {
-            self.right[row] = std::num::wrapping_add_u64(self.right[row], 1);
+            self.right[row] = self.right[row].wrapping_add(1);
         } else {
-            self.wrong[row] = std::num::wrapping_add_u64(self.wrong[row], 1);
+            self.wrong[row] = self.wrong[row].wrapping_add(1);
         }
         self
     }
@@ -52,10 +52,8 @@ pub fn print<R: Print>(rt: &R, tally: Tally, names: &[u8], once: usize) -> io::R
 
 fn total(counts: [u64; 32], once: usize) -> u64 {
     let mut sum: u64 = 0;
-    for row in 0..ROWS {
-        if row < once {
-            sum = std::num::wrapping_add_u64(sum, counts[row]);
-        }
+    for count in counts.iter().take(once) {
+        sum = sum.wrapping_add(*count);
     }
     sum
 }
@@ -74,25 +72,5 @@ fn print_counts<R: Print>(rt: &R, right: u64, wrong: u64) -> io::Result<()> {
 }
 
 fn name_of(names: &[u8], row: usize) -> &[u8] {
-    let start = behind_lines(names, row);
-    let name = &names[start..];
-    &name[..find(name, b'\n')]
-}
-
-// Where the text goes on behind its first `count` lines.
-fn behind_lines(text: &[u8], count: usize) -> usize
-    ensures { result ≤ length text.now }
-{
-    let mut left = count;
-    let mut at = 0;
-    while at < text.len() {
-        if left == 0 {
-            return at;
-        }
-        if text[at] == b'\n' {
-            left -= 1;
-        }
-        at += 1;
-    }
-    at
+    names.split(|byte| *byte == b'\n').nth(row).unwrap_or(&[])
 }

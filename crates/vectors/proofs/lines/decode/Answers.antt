@@ -11,4 +11,4 @@ returns c =
     let left = c.rest-left.ensures in
     inside c.args.text.now c.args.at c.find-end.result c.find-stop.result
     (rw left at c.find-end.ensures.place) (rw left at c.find-stop.ensures.place)
-    (omega (arith, c.if-text-at.false)) (search rules) _ _ _ _ (rw left at c.read_bytes-read.ensures) c.behind.ensures
+    (omega (arith, c.if-text-at.false)) (search rules) _ _ _ _ (rw left at c.read_bytes.ensures) c.behind.ensures

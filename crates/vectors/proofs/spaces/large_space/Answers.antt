@@ -1,7 +1,0 @@
--- `spaces::large_space` has the length that its contract says: by the lemma, since a check that walks the whole array is slow.
-use Rattle.std.proofs.Common.{ℕ, sym}
-use lib.ListN.{length-replicate}
-use Rattle.vectors.proofs.spaces.large_space.Goals as goal
-
-pub returns : goal.returns
-returns c = sym (length-replicate {A = ℕ} 2097152 0)
