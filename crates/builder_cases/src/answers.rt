@@ -1,7 +1,7 @@
 // What a line expects of a builder, and whether an answer is that.
 ghost use Rattle.std.specs.Prelude.{◌≡◌, ◌≤◌, length};
 
-use record::Verdict;
+use record::{Refusal, Verdict};
 use vectors::part;
 use wire::bytes::{byte_at, u32be};
 
@@ -49,13 +49,13 @@ pub fn is_expected(
     value: usize,
     head: &[u8],
     payload: &[u8],
-    verdict: Verdict,
+    verdict: Result<Verdict, Refusal>,
     out: &[u8],
 ) -> bool {
     match verdict {
-        Verdict::Reply(n) => (number == 1) & (n == value) & is_frame(head, payload, n, out),
-        Verdict::NoRoom(needed) => (number == 5) & (needed == value) & vectors::is_marked(out),
-        Verdict::TooLong(len) => (number == 6) & (len == value) & vectors::is_marked(out),
+        Ok(Verdict::Reply(n)) => (number == 1) & (n == value) & is_frame(head, payload, n, out),
+        Err(Refusal::NoRoom(needed)) => (number == 5) & (needed == value) & vectors::is_marked(out),
+        Err(Refusal::TooLong(len)) => (number == 6) & (len == value) & vectors::is_marked(out),
         _ => false,
     }
 }

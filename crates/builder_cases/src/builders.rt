@@ -3,7 +3,7 @@ ghost use Rattle.std.specs.Prelude.{◌≤◌};
 
 use crate::answers;
 use crate::answers::Expected;
-use record::{Answer, Guest};
+use record::{Answer, Guest, Verdict};
 use tcp::Endpoints;
 use wire::bytes::{byte_at, bytes_at, u16be, u32be};
 
@@ -93,7 +93,7 @@ fn lay_at_34(payload: &[u8], out: &mut [u8]) {
 }
 
 fn udp_payload(line: &[u8], payload: &[u8], out: &mut [u8]) -> Answer {
-    let verdict = datagrams::make_udp_payload(
+    let written = datagrams::make_udp_payload(
         bytes_at(line, 1),
         u16be(line, 5),
         bytes_at(line, 7),
@@ -101,10 +101,7 @@ fn udp_payload(line: &[u8], payload: &[u8], out: &mut [u8]) -> Answer {
         payload,
         out,
     );
-    Answer {
-        verdict,
-        guest: guest(line),
-    }
+    guest(line).answer(written.map(Verdict::Reply))
 }
 
 fn tcp_frame(line: &[u8], payload: &[u8], out: &mut [u8]) -> Answer {
@@ -144,10 +141,8 @@ fn is_answer(
     out: &[u8],
 ) -> bool {
     let head = vectors::part(line, e.head_at, e.head_len);
-    let verdict = answer.verdict;
-    let after = answer.guest;
     let spent = (e.number == 1) & (builder != UDP_PAYLOAD);
-    let id = std::num::wrapping_add_u16(u16be(line, 1), spent as u16);
-    vectors::same_record(after, known(id))
-        & answers::is_expected(e.number, e.value, head, payload, verdict, out)
+    let id = u16be(line, 1).wrapping_add(u16::from(spent));
+    vectors::same_record(answer.guest, known(id))
+        & answers::is_expected(e.number, e.value, head, payload, answer.verdict, out)
 }

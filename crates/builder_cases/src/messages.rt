@@ -1,6 +1,7 @@
 // DHCP lines: the walk over a message's options, the types of replies, and the reply.
 use crate::answers;
 use options::CutAt;
+use record::Verdict;
 use wire::bytes::{byte_at, bytes_at, u16be, u32be};
 
 const CUT: u8 = 7;
@@ -80,7 +81,7 @@ pub fn builds_reply(line: &[u8]) -> bool {
     if out.len() < room {
         return false;
     }
-    let verdict = dhcp_message::build_reply(
+    let written = dhcp_message::build_reply(
         vectors::network(),
         bytes_at(line, 5),
         u32be(line, 1),
@@ -92,7 +93,7 @@ pub fn builds_reply(line: &[u8]) -> bool {
         u32be(line, 17) as usize,
         vectors::rest(line, 21),
         b"",
-        verdict,
+        written.map(Verdict::Reply),
         out,
     )
 }

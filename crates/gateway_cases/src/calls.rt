@@ -4,7 +4,7 @@ ghost use Rattle.std.specs.Prelude.{◌≡◌};
 ghost use Rattle.gateway_cases.specs.Calls.{Called, Judged, fields_of, is_call};
 
 use crate::pieces;
-use record::{Guest, Network, Verdict};
+use record::{Answer, Guest, Network, Refusal, Verdict};
 use wire::bytes::{byte_at, bytes_at, u16be, u32be};
 
 // A call on document 01's network with id and xid before it, one that goes on with the record that the
@@ -162,14 +162,11 @@ fn call_with(fields: &[u8], before: Guest, frame: &[u8]) -> Checked {
     if out.len() < room {
         return unlike(before);
     }
-    let network = before.network;
-    let answer = slirp::handle(before, frame, out);
-    let verdict = answer.verdict;
-    let after = answer.guest;
+    let Answer { verdict, guest } = slirp::handle(before, frame, out);
     Checked {
-        agrees: vectors::same_record(after, record_after(fields, network))
+        agrees: vectors::same_record(guest, record_after(fields, before.network))
             & is_answer(fields, verdict, frame, out),
-        guest: after,
+        guest,
     }
 }
 
@@ -184,7 +181,7 @@ fn record_after(fields: &[u8], network: Network) -> Guest {
 }
 
 // Lays out the reply that the line expects.
-fn is_answer(fields: &[u8], verdict: Verdict, frame: &[u8], out: &[u8]) -> bool {
+fn is_answer(fields: &[u8], verdict: Result<Verdict, Refusal>, frame: &[u8], out: &[u8]) -> bool {
     let size = u16be(fields, FRAME_SIZE_AT) as usize;
     let mut space = vectors::clear_space();
     let image = pieces::lay(vectors::rest(fields, FRAME_AT + size), frame, &mut space);
@@ -208,16 +205,16 @@ fn reply_length(fields: &[u8]) -> usize {
     0
 }
 
-fn is_verdict(fields: &[u8], verdict: Verdict) -> bool {
+fn is_verdict(fields: &[u8], verdict: Result<Verdict, Refusal>) -> bool {
     match verdict {
-        Verdict::Drop => is_number(fields, 0, 0, 0),
-        Verdict::Reply(n) => is_number(fields, REPLY, n, 0),
-        Verdict::Dns { start, len } => is_number(fields, 2, start, len),
-        Verdict::Relay { start, len } => is_number(fields, 3, start, len),
-        Verdict::Tcp(len) => is_number(fields, 4, len, 0),
-        Verdict::NoRoom(needed) => is_number(fields, 5, needed, 0),
-        Verdict::TooLong(len) => is_number(fields, 6, len, 0),
-        Verdict::CutType(place) => is_number(fields, 7, place, 0),
+        Ok(Verdict::Drop) => is_number(fields, 0, 0, 0),
+        Ok(Verdict::Reply(n)) => is_number(fields, REPLY, n, 0),
+        Ok(Verdict::Dns { start, len }) => is_number(fields, 2, start, len),
+        Ok(Verdict::Relay { start, len }) => is_number(fields, 3, start, len),
+        Ok(Verdict::Tcp(len)) => is_number(fields, 4, len, 0),
+        Err(Refusal::NoRoom(needed)) => is_number(fields, 5, needed, 0),
+        Err(Refusal::TooLong(len)) => is_number(fields, 6, len, 0),
+        Err(Refusal::CutType(place)) => is_number(fields, 7, place, 0),
     }
 }
 
