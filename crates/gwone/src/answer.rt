@@ -9,7 +9,7 @@ ghost use Rattle.gwone.specs.Printed.{spaced, answer_text, guest_mac_lem, printe
 
 use crate::text::{add, add_hex, add_number};
 use making::make;
-use record::{Guest, Verdict};
+use record::{Guest, Refusal, Verdict};
 
 const GUEST_MAC: [u8; 6] = [0x52, 0x54, 0x00, 0x12, 0x34, 0x56];
 
@@ -68,26 +68,26 @@ pub fn add_printed(input: &[u8], text: &mut [u8]) -> usize
     }
     let mut reply = reply_space();
     let answer = slirp::handle(new_guest(), input, &mut reply);
-    let verdict = answer.verdict;
-    add_answer(text, verdict, &reply)
+    add_answer(text, answer.verdict, &reply)
 }
 
 // The word of the verdict and its numbers; a reply stands at the front of `buffer`.
-fn add_answer(text: &mut [u8], verdict: Verdict, buffer: &[u8]) -> usize
+#[tactic(auto, unfolding(record::specs::Answer::paper, crate::specs::Printed::line, crate::specs::Printed::answer_text))]
+fn add_answer(text: &mut [u8], verdict: Result<Verdict, Refusal>, buffer: &[u8]) -> usize
     requires in_bounds { 4224 ≤ length text.old }
     requires buffer_len_bound { length buffer.now ≤ 2048 }
     ensures added { Added 0 (answer_text (paper verdict) buffer.now) text.old text.new result }
     ensures upper_bound { result ≤ 4224 }
 {
     match verdict {
-        Verdict::Drop => add(text, 0, b"drop\n"),
-        Verdict::Reply(n) => add_reply(text, n, front(buffer, n)),
-        Verdict::Dns { start, len } => add_two(text, b"dns", start, len),
-        Verdict::Relay { start, len } => add_two(text, b"relay", start, len),
-        Verdict::Tcp(len) => add_one(text, b"tcp", len),
-        Verdict::NoRoom(needed) => add_two(text, b"refused", NO_ROOM, needed),
-        Verdict::TooLong(len) => add_two(text, b"refused", TOO_LONG, len),
-        Verdict::CutType(place) => add_two(text, b"refused", CUT_TYPE, place),
+        Ok(Verdict::Drop) => add(text, 0, b"drop\n"),
+        Ok(Verdict::Reply(n)) => add_reply(text, n, front(buffer, n)),
+        Ok(Verdict::Dns { start, len }) => add_two(text, b"dns", start, len),
+        Ok(Verdict::Relay { start, len }) => add_two(text, b"relay", start, len),
+        Ok(Verdict::Tcp(len)) => add_one(text, b"tcp", len),
+        Err(Refusal::NoRoom(needed)) => add_two(text, b"refused", NO_ROOM, needed),
+        Err(Refusal::TooLong(len)) => add_two(text, b"refused", TOO_LONG, len),
+        Err(Refusal::CutType(place)) => add_two(text, b"refused", CUT_TYPE, place),
     }
 }
 
@@ -132,5 +132,5 @@ fn add_reply(text: &mut [u8], n: usize, bytes: &[u8]) -> usize
 fn front(bytes: &[u8], n: usize) -> &[u8]
     ensures { result.now ≡ take n bytes.now }
 {
-    if n < bytes.len() { &bytes[..n] } else { bytes }
+    &bytes[..n.min(bytes.len())]
 }

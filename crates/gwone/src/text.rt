@@ -45,10 +45,8 @@ pub fn add_hex(text: &mut [u8], at: usize, bytes: &[u8]) -> usize
     ensures { Added at (hex bytes.now) text.old text.new result }
 {
     let mut end = at;
-    let mut i = 0;
-    while i < bytes.len() {
-        end = add_byte(text, end, bytes[i]);
-        i += 1;
+    for byte in bytes {
+        end = add_byte(text, end, *byte);
     }
     end
 }
