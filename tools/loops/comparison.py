@@ -91,7 +91,7 @@ class Comparison:
     def compare_loops(self):
         wanted = {}
         for function in self.library.functions:
-            for loop in function.loops + function.copies:
+            for loop in function.loops + function.walks:
                 wanted.setdefault((function.file, function.title, loop.words), []).append((function, loop))
         rows = self.rows_of_loops()
         for key, loops in wanted.items():
@@ -128,10 +128,17 @@ class Comparison:
         return f"the function '{title}' in {file} has no loop '{head}'"
 
     def compare_measure(self, function, loop, row):
-        # What copies is of the standard library, and its measure too.
-        if loop not in function.copies:
-            self.compare_falls(measure_of_loop(self.library, function, loop), code_in(row.cells["falls"]), row,
-                               f"the loop '{loop.head}' of '{function.title}'", loop.line, function.file)
+        # What walks is of the standard library, and its measure too.
+        if loop in function.walks:
+            return
+        what, said = f"the loop '{loop.head}' of '{function.title}'", code_in(row.cells["falls"])
+        measure = measure_of_loop(self.library, function, loop)
+        # A `for` takes each item of what it goes over once, so its proof needs no number; the page then says in words what is left.
+        if loop.words[0] == "for" and measure[2] is None:
+            if said or not row.cells["falls"].strip():
+                self.fault(PAGE, row.line, f"{what} has no measure in {measure[0]}: the page says in words, with nothing in backticks, what falls")
+            return
+        self.compare_falls(measure, said, row, what, loop.line, function.file)
 
     def compare_falls(self, measure, said, row, what, line, file):
         proof, name, proved = measure

@@ -1,7 +1,7 @@
 """All crates that what a host links is built on, and which function may come to call which."""
 import os
 
-from loops.sources import COPY, Function, Module, Type, Unreadable, read_source
+from loops.sources import Function, Module, Type, Unreadable, WALKS, read_source
 
 # The crate that a host in C links, and the one whose functions it exports.
 LIBRARY = "host_c"
@@ -9,11 +9,19 @@ EXPORTED = "host"
 
 # What the language itself brings: all of it is compiled to code without a loop.
 NUMBERS = {"u8", "u16", "u32", "u64", "usize", "i8", "i16", "i32", "i64", "isize", "f32", "f64"}
-FUNCTIONS_OF_NUMBERS = {"count_ones", "leading_zeros", "trailing_zeros", "to_bits", "from_bits"}
-METHODS_OF_THE_LANGUAGE = {"len", COPY}
+FUNCTIONS_OF_NUMBERS = {"count_ones", "leading_zeros", "trailing_zeros", "from", "try_from", "from_be_bytes", "from_le_bytes"}
+METHODS_OF_THE_LANGUAGE = {
+    "len", "is_empty", "count_ones", "wrapping_add", "wrapping_sub", "saturating_sub", "div_ceil", "min", "swap_bytes", "to_be_bytes",
+    # of a slice: parts of it, and what goes over it with no step taken
+    "get", "split_at", "as_chunks", "first_chunk_mut", "iter",
+    # of an Option or a Result, and of a bool that makes one; what a closure calls is read where it stands
+    "copied", "unwrap_or", "is_some", "is_none", "is_ok", "ok_or", "map", "map_err", "and_then", "then_some",
+} | set(WALKS)
+# The values of Option and Result.
+MADE_BY_THE_LANGUAGE = {"Some", "Ok", "Err"}
 # Of the standard library the functions that are known, all without a loop and without a call of another: a call of any other is told.
 STANDARD = "std"
-FUNCTIONS_OF_STANDARD = {("num", f"wrapping_{what}_{number}") for what in ("add", "sub") for number in ("u8", "u16", "u32", "u64", "usize")}
+FUNCTIONS_OF_STANDARD = {("cmp", "min")}
 
 
 class Library:
@@ -81,6 +89,8 @@ class Library:
         """What a path means that is written in a module."""
         if len(path) == 1:
             found = self.named(module, path[0], kind, seen)
+            if found is None and kind == "function" and path[0] in MADE_BY_THE_LANGUAGE:
+                return "constructor"
             return self.crates.get(path[0]) if found is None and kind == "type" else found
         place = self.start(module, path[0], seen)
         for at, name in enumerate(path[1:], 1):

@@ -10,12 +10,18 @@ WORDS_UNREAD_IN_BODIES = {"async", "dyn", "enum", "extern", "fn", "ghost", "impl
                           "trait", "type", "unsafe", "use", "yield"}
 WORDS_UNREAD_IN_TYPES = {"dyn", "fn", "ghost", "impl", "unsafe"} | set(LOOP_WORDS)
 WORDS_UNREAD_IN_HEADS = {"else", "if", "match"} | set(LOOP_WORDS)
-ATTRIBUTES = {"repr", "inline"}
-# Others, each just as it stands here: what they derive has no loop. Of a whole file one is known.
-WHOLE_ATTRIBUTES = {"unsafe(no_mangle)", "derive(Clone,Copy)"}
+# `tactic` is for the prover alone.
+ATTRIBUTES = {"repr", "inline", "tactic"}
+# Another, just as it stands here. What is derived of these has no loop: arrays of four and of six bytes are compared at once.
+WHOLE_ATTRIBUTES = {"unsafe(no_mangle)"}
+DERIVED = {"Clone", "Copy", "Debug", "PartialEq", "Eq"}
+# Of a whole file one is known.
 ATTRIBUTE_OF_A_FILE = "tactic(auto)"
-# A method of the standard library that goes over all bytes it is handed: it has no loop in its text, and is counted as one.
-COPY = "copy_from_slice"
+# The macro that is known: a match of what it is handed, with no loop.
+KNOWN_MACRO = "matches"
+# Methods of the standard library that go over all that they are handed: they have no loop in their text, and each call is
+# counted as one.
+WALKS = ("copy_from_slice", "fill", "all")
 
 
 class Unreadable(Exception):
@@ -42,7 +48,7 @@ TOKEN = re.compile(
     re.X | re.S | re.A,
 )
 GHOST_USE = re.compile(r"ghost\s+use\b[^;]*;")
-CONTRACT = re.compile(r"(?:(?:requires|ensures)(?:\s+\w+)?|ghost)\s*\{", re.A)
+CONTRACT = re.compile(r"(?:(?:requires|ensures)(?:\s+\w+)?|ghost(?:\s+\w+\s*=)?)\s*\{", re.A)
 # In the logic's language: a comment, a text, or a brace as a letter.
 HIDES_BRACES = re.compile(r"""--|\{-|"|'[{}]'""")
 
@@ -117,8 +123,8 @@ class Function:
         self.module, self.owner, self.name, self.line = module, owner, name, line
         self.type = None
         self.is_exported = self.takes_self = False
-        # Its loops, and each call of a copy, which is listed as a loop is; the name of the cycle that it says it is in.
-        self.loops, self.copies, self.calls, self.callees = [], [], [], set()
+        # Its loops, and each call of a method that walks, which is listed as a loop is; the name of the cycle that it says it is in.
+        self.loops, self.walks, self.calls, self.callees = [], [], [], set()
         self.cycle_name = None
         self.body_start = 0
 
@@ -287,6 +293,8 @@ def read_attributes(cursor):
         whole = "".join(words)
         if words[:2] == ["cycle", "("] and len(words) == 4:
             is_known, found["cycle"] = True, words[2]
+        elif words[:2] == ["derive", "("]:
+            is_known = set(words[2:-1]) - {","} <= DERIVED
         else:
             is_known, found[whole] = whole in WHOLE_ATTRIBUTES or words[:1] and words[0] in ATTRIBUTES, True
         if not is_known:
@@ -364,6 +372,9 @@ def read_enum(cursor, module):
 def read_impl(cursor, module):
     """The functions of a type, whose name is looked up once all sources are read."""
     path = cursor.take_until("{")
+    if [token.text for token in path[:2]] == ["Model", "for"]:
+        read_model(cursor)
+        return
     cursor.take("{")
     if any(token.kind != "name" and token.text != "::" for token in path):
         raise Unreadable(path[0].line, "an 'impl' of more than a name")
@@ -374,6 +385,16 @@ def read_impl(cursor, module):
         attributes = read_attributes(cursor)
         is_public = read_visibility(cursor)
         functions.append(read_function(cursor, module, path[-1].text, attributes, is_public))
+
+
+def read_model(cursor):
+    """How contracts see a type: for the prover alone, so that it holds terms of the logic and nothing that runs."""
+    cursor.take("{")
+    while not cursor.takes("}"):
+        token = cursor.take()
+        if token.kind != "contract":
+            raise Unreadable(token.line, f"'{token.text}' in an 'impl Model'")
+        cursor.take(";")
 
 
 def read_function(cursor, module, owner, attributes, is_public):
@@ -399,7 +420,7 @@ def read_function(cursor, module, owner, attributes, is_public):
     body = cursor.take_bracketed()
     refuse(body, WORDS_UNREAD_IN_BODIES, f"the body of '{name.text}'")
     function.loops = loops_in(body)
-    function.copies = copies_in(body)
+    function.walks = walks_in(body)
     function.calls = calls_in(body)
     return function
 
@@ -420,10 +441,10 @@ def loops_in(body):
     return loops
 
 
-def copies_in(body):
-    """The calls of the method that copies, each as a loop is: its head is the method's name, and it has no measure."""
-    return [Loop(COPY, (COPY,), frozenset(), token.line, token.start, token.end) for at, token in enumerate(body)
-            if token.text == COPY and at and body[at - 1].text == "." and at + 1 < len(body) and body[at + 1].text == "("]
+def walks_in(body):
+    """The calls of a method that walks, each as a loop is: its head is the method's name, and it has no measure."""
+    return [Loop(token.text, (token.text,), frozenset(), token.line, token.start, token.end) for at, token in enumerate(body)
+            if token.text in WALKS and at and body[at - 1].text == "." and at + 1 < len(body) and body[at + 1].text == "("]
 
 
 def shown(tokens):
@@ -453,21 +474,28 @@ def calls_in(tokens):
         if before is None:
             continue
         is_named = before.kind == "name" and before.text not in WORDS_OF_EXPRESSIONS
-        if is_named and token.text == "!" and at + 1 < len(tokens) and tokens[at + 1].text in ("(", "[", "{"):
+        if is_named and token.text == "!" and at + 1 < len(tokens) and tokens[at + 1].text in ("(", "[", "{") and before.text != KNOWN_MACRO:
             raise Unreadable(token.line, f"the macro '{before.text}!'")
-        if before.text == "::" and token.text == "<":
+        if before.text == "::" and token.text == "<" and not is_one_number(tokens, at):
             raise Unreadable(token.line, "'::<'")
         if token.text != "(":
             continue
         if is_named:
             calls.append(call_before(tokens, at))
+        elif at >= 5 and before.text == ">" and tokens[at - 4].text == "::" and is_one_number(tokens, at - 3):
+            calls.append(call_before(tokens, at - 4))
         elif before.text in (")", "]", "?") or before.kind in ("number", "string", "letter"):
             raise Unreadable(token.line, f"a call of what is no name: '{before.text}('")
     return calls
 
 
+def is_one_number(tokens, at):
+    """Whether `<N>` stands at `at`, with a number for N."""
+    return at + 2 < len(tokens) and tokens[at].text == "<" and tokens[at + 1].kind == "number" and tokens[at + 2].text == ">"
+
+
 def call_before(tokens, at):
-    """The call whose bracket stands at `at`."""
+    """The call whose bracket, or whose `::<N>`, stands at `at`."""
     first = at - 1
     while first >= 2 and tokens[first - 1].text == "::" and tokens[first - 2].kind == "name":
         first -= 2
