@@ -1,44 +1,37 @@
 // What a line expects of a builder, and whether an answer is that.
-ghost use Rattle.std.specs.Prelude.{◌≡◌, ◌≤◌, length};
+ghost use Rattle.std.specs.Prelude.{◌≤◌};
 
 use record::{Refusal, Verdict};
-use vectors::part;
+use vectors::{part, rest};
 use wire::bytes::{byte_at, u32be};
 
-// The end of a builder's line: room, answer, payload and the bytes before the payload.
+// The end of a builder's line: room, answer, the bytes before the payload, and the payload.
 #[derive(Clone, Copy)]
-pub struct Expected {
+pub struct Expected<'a> {
     pub room: usize,
     pub number: u8,
     pub value: usize,
     pub seed: u8,
     pub len: usize,
-    pub head_at: usize,
-    pub head_len: usize,
-    pub payload_at: usize,
+    pub head: &'a [u8],
+    // What the line writes out of the payload.
+    pub written: &'a [u8],
 }
 
-// Room for the longest payload of a line. The contract gives only the length: that is all its users
-// need.
-pub fn longest_payload() -> [u8; 300032]
-    ensures { 300032 ≡ length result }
-{
-    [0; 300032]
-}
-
-pub fn read_expected(line: &[u8], at: usize) -> Expected
-    requires { at ≤ 64 }
-{
-    let head_len = byte_at(line, at + 14) as usize;
-    Expected {
-        room: u32be(line, at) as usize,
-        number: byte_at(line, at + 4),
-        value: u32be(line, at + 5) as usize,
-        seed: byte_at(line, at + 9),
-        len: u32be(line, at + 10) as usize,
-        head_at: at + 15,
-        head_len: head_len,
-        payload_at: at + 15 + head_len,
+impl<'a> Expected<'a> {
+    pub fn read(line: &'a [u8], at: usize) -> Expected<'a>
+        requires { at ≤ 64 }
+    {
+        let head_len = byte_at(line, at + 14) as usize;
+        Expected {
+            room: u32be(line, at) as usize,
+            number: byte_at(line, at + 4),
+            value: u32be(line, at + 5) as usize,
+            seed: byte_at(line, at + 9),
+            len: u32be(line, at + 10) as usize,
+            head: part(line, at + 15, head_len),
+            written: rest(line, at + 15 + head_len),
+        }
     }
 }
 
@@ -62,10 +55,7 @@ pub fn is_expected(
 
 fn is_frame(head: &[u8], payload: &[u8], n: usize, out: &[u8]) -> bool {
     let start = head.len();
-    if n < start {
-        return false;
-    }
-    if out.len() < n {
+    if n < start || out.len() < n {
         return false;
     }
     (part(out, 0, start) == head)

@@ -1,20 +1,41 @@
 // Frames and datagrams built, and the record that a builder returns.
 ghost use Rattle.std.specs.Prelude.{◌≤◌};
 
-use crate::answers;
-use crate::answers::Expected;
+use crate::answers::{Expected, is_expected};
 use record::{Answer, Guest, Verdict};
 use tcp::Endpoints;
 use wire::bytes::{byte_at, bytes_at, u16be, u32be};
 
 // The builders that a line can call.
-const IP_FRAME: u8 = 0;
+#[derive(Clone, Copy, PartialEq, Eq)]
+enum Builder {
+    IpFrame,
+    IpFrameInPlace,
+    UdpPayload,
+    TcpFrame,
+}
 
-const IP_FRAME_IN_PLACE: u8 = 1;
+impl Builder {
+    // Where the answer that a line expects starts.
+    fn expected_at(self) -> usize
+        ensures { result ≤ 64 }
+    {
+        match self {
+            Builder::IpFrame | Builder::IpFrameInPlace => 18,
+            Builder::UdpPayload => 13,
+            Builder::TcpFrame => 30,
+        }
+    }
 
-const UDP_PAYLOAD: u8 = 2;
-
-const TCP_FRAME: u8 = 3;
+    fn call(self, line: &[u8], payload: &[u8], out: &mut [u8]) -> Answer {
+        match self {
+            Builder::IpFrame => ip_frame(line, payload, out),
+            Builder::IpFrameInPlace => ip_frame_in_place(line, payload, out),
+            Builder::UdpPayload => udp_payload(line, payload, out),
+            Builder::TcpFrame => tcp_frame(line, payload, out),
+        }
+    }
+}
 
 // Of the record of every call: no builder may change them, nor the network.
 const MAC: [u8; 6] = [1, 2, 3, 4, 5, 6];
@@ -23,41 +44,33 @@ const XID: u32 = 0x0708090a;
 
 // Built from a payload beside the buffer, and from one that lies in the buffer.
 pub fn builds_ip_frame(line: &[u8]) -> bool {
-    builds(line, IP_FRAME, 18) & builds(line, IP_FRAME_IN_PLACE, 18)
+    builds(line, Builder::IpFrame) & builds(line, Builder::IpFrameInPlace)
 }
 
 pub fn builds_udp_payload(line: &[u8]) -> bool {
-    builds(line, UDP_PAYLOAD, 13)
+    builds(line, Builder::UdpPayload)
 }
 
 pub fn builds_tcp_frame(line: &[u8]) -> bool {
-    builds(line, TCP_FRAME, 30)
+    builds(line, Builder::TcpFrame)
 }
 
-// The line's expected answer starts at `at`.
-fn builds(line: &[u8], builder: u8, at: usize) -> bool
-    requires { at ≤ 64 }
-{
-    let e = answers::read_expected(line, at);
-    let mut payload_space = answers::longest_payload();
-    let mut out_space = vectors::marked_space();
+// Besides verdict and bytes the record is compared: an IPv4 frame built spends the id, and the rest is kept.
+fn builds(line: &[u8], builder: Builder) -> bool {
+    let e = Expected::read(line, builder.expected_at());
+    let mut payload_space: [u8; 300032] = vectors::filled(0);
+    let mut out_space: [u8; 70400] = vectors::filled(vectors::MARK);
     let payload = vectors::front(&mut payload_space, e.len);
     let out = vectors::front(&mut out_space, e.room);
     if (payload.len() < e.len) | (out.len() < e.room) {
         return false;
     }
-    vectors::lay_payload(vectors::rest(line, e.payload_at), e.seed, payload);
-    let answer = call(line, builder, payload, out);
-    is_answer(e, line, builder, payload, answer, out)
-}
-
-fn call(line: &[u8], builder: u8, payload: &[u8], out: &mut [u8]) -> Answer {
-    match builder {
-        IP_FRAME => ip_frame(line, payload, out),
-        IP_FRAME_IN_PLACE => ip_frame_in_place(line, payload, out),
-        UDP_PAYLOAD => udp_payload(line, payload, out),
-        _ => tcp_frame(line, payload, out),
-    }
+    vectors::lay_payload(e.written, e.seed, payload);
+    let answer = builder.call(line, payload, out);
+    let spent = (e.number == 1) & (builder != Builder::UdpPayload);
+    let id = u16be(line, 1).wrapping_add(u16::from(spent));
+    (answer.guest == known(id))
+        & is_expected(e.number, e.value, e.head, payload, answer.verdict, out)
 }
 
 fn ip_frame(line: &[u8], payload: &[u8], out: &mut [u8]) -> Answer {
@@ -93,7 +106,7 @@ fn lay_at_34(payload: &[u8], out: &mut [u8]) {
 }
 
 fn udp_payload(line: &[u8], payload: &[u8], out: &mut [u8]) -> Answer {
-    let written = datagrams::make_udp_payload(
+    let built = datagrams::make_udp_payload(
         bytes_at(line, 1),
         u16be(line, 5),
         bytes_at(line, 7),
@@ -101,7 +114,10 @@ fn udp_payload(line: &[u8], payload: &[u8], out: &mut [u8]) -> Answer {
         payload,
         out,
     );
-    guest(line).answer(written.map(Verdict::Reply))
+    Answer {
+        verdict: built.map(Verdict::Reply),
+        guest: guest(line),
+    }
 }
 
 fn tcp_frame(line: &[u8], payload: &[u8], out: &mut [u8]) -> Answer {
@@ -129,20 +145,4 @@ fn guest(line: &[u8]) -> Guest {
 
 fn known(id: u16) -> Guest {
     Guest::of(MAC, id, XID, vectors::network())
-}
-
-// Besides verdict and bytes the record: an IPv4 frame built spends the id, and the rest is kept.
-fn is_answer(
-    e: Expected,
-    line: &[u8],
-    builder: u8,
-    payload: &[u8],
-    answer: Answer,
-    out: &[u8],
-) -> bool {
-    let head = vectors::part(line, e.head_at, e.head_len);
-    let spent = (e.number == 1) & (builder != UDP_PAYLOAD);
-    let id = u16be(line, 1).wrapping_add(u16::from(spent));
-    vectors::same_record(answer.guest, known(id))
-        & answers::is_expected(e.number, e.value, head, payload, answer.verdict, out)
 }

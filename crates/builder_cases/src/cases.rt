@@ -1,5 +1,6 @@
 // One line: the call that its kind names, and whether its answer is the line's.
-ghost use Rattle.std.specs.Prelude.{◌≡◌, slice_index};
+ghost use Rattle.std.specs.Prelude.{◌≡◌, ◌≢◌, IfSome, slice_index};
+ghost use Rattle.std.specs.Option.{unwrap_or};
 ghost use Rattle.builder_cases.specs.Kinds.{Judged, kind_of};
 
 use crate::{builders, checksums, messages, whole_frames};
@@ -7,14 +8,14 @@ use wire::bytes::byte_at;
 
 #[derive(Clone, Copy)]
 pub struct Case {
-    // The line's kind without the bit of a spoiled line; 0 where no call has it.
+    // The line's kind without the bit of a spoiled line.
     pub kind: u8,
-    // Whether the call answers as the line says: never where the kind is 0.
+    // Whether the call answers as the line says.
     pub agrees: bool,
 }
 
-const NONE: u8 = 0;
-
+// The kinds. (As numbers: a line has its kind as a byte, and what counts the cases has a row at that number, so that
+// an enum would need a conversion to each.)
 const CHECKSUM: u8 = 1;
 
 const TWO_PIECES: u8 = 2;
@@ -37,29 +38,26 @@ const DHCP_REPLY: u8 = 11;
 
 const REPLY_TYPES: u8 = 12;
 
-pub fn judge(line: &[u8]) -> Case
+// None where no call has the line's kind.
+pub fn judge(line: &[u8]) -> Option<Case>
     ensures { Judged (slice_index line.now 0) result }
 {
-    let kind = kind_of(byte_at(line, 0));
-    if kind == NONE {
-        return Case {
-            kind: NONE,
-            agrees: false,
-        };
-    }
-    Case {
-        kind: kind,
+    let kind = kind_of(byte_at(line, 0))?;
+    Some(Case {
+        kind,
         agrees: agrees(line, kind),
-    }
+    })
 }
 
-fn kind_of(first: u8) -> u8
-    ensures { result ≡ kind_of first }
+#[tactic(auto, unfolding(crate::specs::Kinds::kind_of))]
+fn kind_of(first: u8) -> Option<u8>
+    ensures value { unwrap_or result 0 ≡ kind_of first }
+    ensures named { IfSome result (λ kind. kind ≢ 0) }
 {
     let kind = first % vectors::SPOILED;
     match kind {
-        CHECKSUM..=IP_FRAME | UDP_PAYLOAD..=REPLY_TYPES => kind,
-        _ => NONE,
+        CHECKSUM..=IP_FRAME | UDP_PAYLOAD..=REPLY_TYPES => Some(kind),
+        _ => None,
     }
 }
 

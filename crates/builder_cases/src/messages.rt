@@ -16,7 +16,7 @@ pub fn walks(line: &[u8]) -> bool {
     let written = vectors::rest(line, WRITTEN_AT);
     let ruled = u32be(line, 7) as usize;
     let len = ruled + written.len();
-    let mut space = vectors::clear_space();
+    let mut space: [u8; 70400] = vectors::filled(0);
     let message = vectors::front(&mut space, len);
     if message.len() < len {
         return false;
@@ -76,12 +76,12 @@ pub fn reply_types(line: &[u8]) -> bool {
 
 pub fn builds_reply(line: &[u8]) -> bool {
     let room = u32be(line, 12) as usize;
-    let mut space = vectors::marked_space();
+    let mut space: [u8; 70400] = vectors::filled(vectors::MARK);
     let out = vectors::front(&mut space, room);
     if out.len() < room {
         return false;
     }
-    let written = dhcp_message::build_reply(
+    let built = dhcp_message::build_reply(
         vectors::network(),
         bytes_at(line, 5),
         u32be(line, 1),
@@ -93,7 +93,7 @@ pub fn builds_reply(line: &[u8]) -> bool {
         u32be(line, 17) as usize,
         vectors::rest(line, 21),
         b"",
-        written.map(Verdict::Reply),
+        built.map(Verdict::Reply),
         out,
     )
 }

@@ -4,7 +4,7 @@ ghost use Rattle.std.specs.Prelude.{◌≡◌};
 ghost use Rattle.gateway_cases.specs.Calls.{Called, Judged, fields_of, is_call};
 
 use crate::pieces;
-use record::{Answer, Guest, Network, Refusal, Verdict};
+use record::{Guest, Network, Refusal, Verdict};
 use wire::bytes::{byte_at, bytes_at, u16be, u32be};
 
 // A call on document 01's network with id and xid before it, one that goes on with the record that the
@@ -38,13 +38,18 @@ const WHOSE: u8 = 4;
 
 #[derive(Clone, Copy)]
 pub struct Outcome {
-    // Whether the line names a verdict and whose answer it is: without them nothing is called.
-    pub named: bool,
-    pub agrees: bool,
-    pub verdict: u8,
-    pub whose: u8,
+    // None where the line does not name a verdict and whose answer it is: nothing is called then.
+    pub named: Option<Named>,
     // The record that the call left.
     pub guest: Guest,
+}
+
+// What a line names, and whether the call agrees with it.
+#[derive(Clone, Copy)]
+pub struct Named {
+    pub verdict: u8,
+    pub whose: u8,
+    pub agrees: bool,
 }
 
 // A call's answer, and whether it is the line's.
@@ -110,64 +115,49 @@ fn judged(fields: &[u8], before: Guest) -> Outcome
 {
     let verdict = byte_at(fields, VERDICT_AT);
     let whose = byte_at(fields, WHOSE_AT);
-    let unnamed = Outcome {
-        named: false,
+    if VERDICTS <= verdict || WHOSE <= whose {
+        return Outcome {
+            named: None,
+            guest: before,
+        };
+    }
+    // A line that lacks the frame, or room for a call, agrees with no answer.
+    let checked = call(fields, before).unwrap_or(Checked {
         agrees: false,
-        verdict: verdict,
-        whose: whose,
         guest: before,
-    };
-    if VERDICTS <= verdict {
-        return unnamed;
-    }
-    if WHOSE <= whose {
-        return unnamed;
-    }
-    let checked = call(fields, before);
-    let after = checked.guest;
+    });
     Outcome {
-        named: true,
-        agrees: checked.agrees,
-        verdict: verdict,
-        whose: whose,
-        guest: after,
+        named: Some(Named {
+            verdict,
+            whose,
+            agrees: checked.agrees,
+        }),
+        guest: checked.guest,
     }
 }
 
 // Lays out the frame.
-fn call(fields: &[u8], before: Guest) -> Checked {
+fn call(fields: &[u8], before: Guest) -> Option<Checked> {
     let size = u16be(fields, FRAME_SIZE_AT) as usize;
-    if fields.len() < FRAME_AT + size {
-        return unlike(before);
-    }
-    let mut space = vectors::clear_space();
-    let frame = pieces::lay(vectors::part(fields, FRAME_AT, size), b"", &mut space);
-    if !frame.whole {
-        return unlike(before);
-    }
-    call_with(fields, before, vectors::part(&space, 0, frame.len))
+    let pieces = vectors::rest(fields, FRAME_AT).get(..size)?;
+    let mut space: [u8; 70400] = vectors::filled(0);
+    let len = pieces::lay(pieces, b"", &mut space)?;
+    call_with(fields, before, vectors::part(&space, 0, len))
 }
 
-fn unlike(before: Guest) -> Checked {
-    Checked {
-        agrees: false,
-        guest: before,
-    }
-}
-
-fn call_with(fields: &[u8], before: Guest, frame: &[u8]) -> Checked {
+fn call_with(fields: &[u8], before: Guest, frame: &[u8]) -> Option<Checked> {
     let room = u32be(fields, ROOM_AT) as usize;
-    let mut space = vectors::marked_space();
+    let mut space: [u8; 70400] = vectors::filled(vectors::MARK);
     let out = vectors::front(&mut space, room);
     if out.len() < room {
-        return unlike(before);
+        return None;
     }
-    let Answer { verdict, guest } = slirp::handle(before, frame, out);
-    Checked {
-        agrees: vectors::same_record(guest, record_after(fields, before.network))
-            & is_answer(fields, verdict, frame, out),
-        guest,
-    }
+    let answer = slirp::handle(before, frame, out);
+    Some(Checked {
+        agrees: (answer.guest == record_after(fields, before.network))
+            & is_answer(fields, answer.verdict, frame, out),
+        guest: answer.guest,
+    })
 }
 
 // On the network of the record before: no call changes it.
@@ -183,12 +173,15 @@ fn record_after(fields: &[u8], network: Network) -> Guest {
 // Lays out the reply that the line expects.
 fn is_answer(fields: &[u8], verdict: Result<Verdict, Refusal>, frame: &[u8], out: &[u8]) -> bool {
     let size = u16be(fields, FRAME_SIZE_AT) as usize;
-    let mut space = vectors::clear_space();
-    let image = pieces::lay(vectors::rest(fields, FRAME_AT + size), frame, &mut space);
-    image.whole
-        & (image.len == reply_length(fields))
-        & is_verdict(fields, verdict)
-        & holds(out, vectors::part(&space, 0, image.len))
+    let mut space: [u8; 70400] = vectors::filled(0);
+    match pieces::lay(vectors::rest(fields, FRAME_AT + size), frame, &mut space) {
+        Some(len) => {
+            (len == reply_length(fields))
+                & (paper(verdict) == paper_at(fields))
+                & holds(out, vectors::part(&space, 0, len))
+        }
+        None => false,
+    }
 }
 
 // The buffer starts with the image, and has its marks behind it.
@@ -205,21 +198,24 @@ fn reply_length(fields: &[u8]) -> usize {
     0
 }
 
-fn is_verdict(fields: &[u8], verdict: Result<Verdict, Refusal>) -> bool {
+// An answer as document 01 writes it: its number, the value with it, and the length of data.
+fn paper(verdict: Result<Verdict, Refusal>) -> (u8, usize, usize) {
     match verdict {
-        Ok(Verdict::Drop) => is_number(fields, 0, 0, 0),
-        Ok(Verdict::Reply(n)) => is_number(fields, REPLY, n, 0),
-        Ok(Verdict::Dns { start, len }) => is_number(fields, 2, start, len),
-        Ok(Verdict::Relay { start, len }) => is_number(fields, 3, start, len),
-        Ok(Verdict::Tcp(len)) => is_number(fields, 4, len, 0),
-        Err(Refusal::NoRoom(needed)) => is_number(fields, 5, needed, 0),
-        Err(Refusal::TooLong(len)) => is_number(fields, 6, len, 0),
-        Err(Refusal::CutType(place)) => is_number(fields, 7, place, 0),
+        Ok(Verdict::Drop) => (0, 0, 0),
+        Ok(Verdict::Reply(n)) => (REPLY, n, 0),
+        Ok(Verdict::Dns { start, len }) => (2, start, len),
+        Ok(Verdict::Relay { start, len }) => (3, start, len),
+        Ok(Verdict::Tcp(len)) => (4, len, 0),
+        Err(Refusal::NoRoom(needed)) => (5, needed, 0),
+        Err(Refusal::TooLong(len)) => (6, len, 0),
+        Err(Refusal::CutType(place)) => (7, place, 0),
     }
 }
 
-fn is_number(fields: &[u8], number: u8, value: usize, len: usize) -> bool {
-    (byte_at(fields, VERDICT_AT) == number)
-        & ((u32be(fields, VALUE_AT) as usize) == value)
-        & ((u16be(fields, DATA_LENGTH_AT) as usize) == len)
+fn paper_at(fields: &[u8]) -> (u8, usize, usize) {
+    (
+        byte_at(fields, VERDICT_AT),
+        u32be(fields, VALUE_AT) as usize,
+        u16be(fields, DATA_LENGTH_AT) as usize,
+    )
 }

@@ -6,5 +6,5 @@ mod calls;
 mod makings;
 mod pieces;
 
-pub use calls::{Outcome, called, is_call};
+pub use calls::{Named, Outcome, called, is_call};
 pub use makings::{MAKING, MakingOutcome, made};

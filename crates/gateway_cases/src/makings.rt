@@ -1,5 +1,5 @@
 // One record to be made: what the call is asked, and whether answer and record come out as a line says.
-ghost use Rattle.std.specs.Prelude.{◌≡◌, eqb, get_or};
+ghost use Rattle.std.specs.Prelude.{◌≡◌, IfSome, eqb, get_or};
 
 use making::BadRecord;
 use record::{Guest, Network};
@@ -32,30 +32,24 @@ const BAD_RECORD: u8 = 9;
 
 #[derive(Clone, Copy)]
 pub struct MakingOutcome {
-    // Whether the line has its length and names an answer: without them nothing is called.
-    pub named: bool,
     pub agrees: bool,
     // Whether the line says that a record is made.
     pub made: bool,
 }
 
-pub fn made(line: &[u8]) -> MakingOutcome
-    ensures { result.made ≡ eqb (get_or line.now 24 0) 24 }
+// None where the line has not its length or names no answer: nothing is called then.
+pub fn made(line: &[u8]) -> Option<MakingOutcome>
+    ensures { IfSome result (λ outcome. outcome.made ≡ eqb (get_or line.now 24 0) 24) }
 {
     let answer = byte_at(line, ANSWER_AT);
     let made = answer == MADE;
     if (line.len() != LINE_LENGTH) | (!made & (answer != BAD_RECORD)) {
-        return MakingOutcome {
-            named: false,
-            agrees: false,
-            made: made,
-        };
+        return None;
     }
-    MakingOutcome {
-        named: true,
+    Some(MakingOutcome {
         agrees: makes(line),
-        made: made,
-    }
+        made,
+    })
 }
 
 fn makes(line: &[u8]) -> bool {
@@ -67,7 +61,7 @@ fn makes(line: &[u8]) -> bool {
         bytes_at(line, MASK_AT),
         lease(line),
     ) {
-        Ok(guest) => (number == MADE) & vectors::same_record(guest, new_record(line)),
+        Ok(guest) => (number == MADE) & (guest == new_record(line)),
         // There is no record then, and the line says 0 of its lease.
         Err(BadRecord) => (number == BAD_RECORD) & (u32be(line, LEASE_OF_RECORD_AT) == 0),
     }

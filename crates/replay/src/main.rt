@@ -5,10 +5,11 @@
 
 mod rows;
 
+use gateway_cases::Named;
 use input::read_full;
 use record::Guest;
 use std::io;
-use vectors::{SPOILED, Tally};
+use vectors::{Judge, SPOILED, Tally};
 use wire::bytes::byte_at;
 
 // The largest input, with a byte to spare.
@@ -17,109 +18,110 @@ const TEXT_ROOM: usize = 1835008;
 const LONGEST_LINE: usize = 4096;
 
 fn main(rt: HostRuntime) -> io::Result<()> {
-    let mut space = vectors::large_space();
+    let mut space: [u8; 2097152] = vectors::filled(0);
     let text = vectors::front(&mut space, TEXT_ROOM);
     let n = read_full(&mut rt.reader(), text)?;
     if n == text.len() {
         return println!(rt; "input over 1835007");
     }
     let mut line = [0u8; LONGEST_LINE];
-    rows::print(&rt, replayed(vectors::part(text, 0, n), &mut line))
+    let mut run = Run {
+        tally: Tally::new(),
+        guest: Guest::of([0, 0, 0, 0, 0, 0], 1, 0, vectors::network()),
+    };
+    vectors::replay(vectors::part(text, 0, n), &mut line, &mut run);
+    rows::print(&rt, run.tally)
 }
 
 // The count so far, and the record that the last gateway call left.
-#[derive(Clone, Copy)]
+#[derive(Drop)]
 struct Run {
     tally: Tally,
     guest: Guest,
 }
 
-fn replayed(text: &[u8], line: &mut [u8]) -> Tally {
-    let mut run = Run {
-        tally: Tally::new(),
-        guest: Guest::of([0, 0, 0, 0, 0, 0], 1, 0, vectors::network()),
-    };
-    let mut at = 0;
-    while at < text.len() {
-        let read = vectors::decode(text, at, line);
-        at = read.next;
-        run = judged(run, read.whole, vectors::part(line, 0, read.len));
-    }
-    let tally = run.tally;
-    tally
-}
-
-// A blank line or a comment is no case.
-fn judged(run: Run, whole: bool, line: &[u8]) -> Run {
-    if !whole {
-        return counted(run, rows::UNREAD, false);
-    }
-    if line.len() == 0 {
-        return run;
-    }
-    if gateway_cases::is_call(byte_at(line, 0) % SPOILED) {
-        return call_judged(run, line);
-    }
-    if byte_at(line, 0) % SPOILED == gateway_cases::MAKING {
-        return making_judged(run, line);
-    }
-    let case = builder_cases::judge(line);
-    if case.kind == 0 {
-        return counted(run, rows::UNREAD, false);
-    }
-    if SPOILED <= byte_at(line, 0) {
-        return counted(run, rows::SPOILED, !case.agrees);
-    }
-    counted(run, case.kind as usize, case.agrees)
-}
-
-// A spoiled call leaves the record as it was.
-fn call_judged(run: Run, line: &[u8]) -> Run {
-    let last = run.guest;
-    let outcome = gateway_cases::called(line, last);
-    if SPOILED <= byte_at(line, 0) {
-        return counted(run, rows::SPOILED, !outcome.agrees);
-    }
-    let row = rows::of_verdict(outcome.named, outcome.verdict);
-    let once = counted(run, row, outcome.agrees);
-    let whose_row = rows::of_whose(outcome.named, outcome.whose);
-    let twice = counted(once, whose_row, outcome.agrees);
-    let after = outcome.guest;
-    let network = after.network;
-    let elsewhere = !vectors::same_network(network, vectors::network());
-    let all = counted_elsewhere(twice, outcome.named & elsewhere, outcome.agrees);
-    let tally = all.tally;
-    Run {
-        tally: tally,
-        guest: after,
+impl Judge for Run {
+    // A blank line or a comment is no case.
+    fn take(&mut self, line: Option<&[u8]>) {
+        match line {
+            Some(line) => {
+                if line.len() > 0 {
+                    self.judge(
+                        line,
+                        byte_at(line, 0) % SPOILED,
+                        SPOILED <= byte_at(line, 0),
+                    );
+                }
+            }
+            None => self.count(rows::UNREAD, false),
+        }
     }
 }
 
-// A call on another network is counted once more.
-fn counted_elsewhere(run: Run, elsewhere: bool, agrees: bool) -> Run {
-    if elsewhere {
-        return counted(run, rows::ELSEWHERE, agrees);
+impl Run {
+    fn count(&mut self, row: usize, agrees: bool) {
+        self.tally = self.tally.counted(row, agrees);
     }
-    run
-}
 
-fn making_judged(run: Run, line: &[u8]) -> Run {
-    let outcome = gateway_cases::made(line);
-    if SPOILED <= byte_at(line, 0) {
-        return counted(run, rows::SPOILED, !outcome.agrees);
+    // A spoiled line agrees where it is found wrong.
+    fn count_line(&mut self, spoiled: bool, row: usize, agrees: bool) {
+        if spoiled {
+            self.count(rows::SPOILED, !agrees);
+        } else {
+            self.count(row, agrees);
+        }
     }
-    counted(
-        run,
-        rows::of_making(outcome.named, outcome.made),
-        outcome.agrees,
-    )
-}
 
-fn counted(run: Run, row: usize, agrees: bool) -> Run {
-    let tally = run.tally;
-    let guest = run.guest;
-    Run {
-        tally: tally.counted(row, agrees),
-        guest: guest,
+    fn judge(&mut self, line: &[u8], kind: u8, spoiled: bool) {
+        if gateway_cases::is_call(kind) {
+            self.judge_call(line, spoiled);
+        } else if kind == gateway_cases::MAKING {
+            self.judge_making(line, spoiled);
+        } else {
+            self.judge_builder(line, spoiled);
+        }
+    }
+
+    // A spoiled call leaves the record as it was.
+    fn judge_call(&mut self, line: &[u8], spoiled: bool) {
+        let outcome = gateway_cases::called(line, self.guest);
+        if spoiled {
+            let agrees = outcome.named.is_some_and(|named| named.agrees);
+            return self.count(rows::SPOILED, !agrees);
+        }
+        self.guest = outcome.guest;
+        match outcome.named {
+            Some(named) => self.count_call(named),
+            // It lacks a verdict, and it lacks whose it is.
+            None => {
+                self.count(rows::UNREAD, false);
+                self.count(rows::UNREAD, false);
+            }
+        }
+    }
+
+    // A call on another network is counted once more.
+    fn count_call(&mut self, named: Named) {
+        self.count(rows::of_verdict(named.verdict), named.agrees);
+        self.count(rows::of_whose(named.whose), named.agrees);
+        if self.guest.network != vectors::network() {
+            self.count(rows::ELSEWHERE, named.agrees);
+        }
+    }
+
+    fn judge_making(&mut self, line: &[u8], spoiled: bool) {
+        match gateway_cases::made(line) {
+            Some(outcome) => {
+                self.count_line(spoiled, rows::of_making(outcome.made), outcome.agrees);
+            }
+            None => self.count_line(spoiled, rows::UNREAD, false),
+        }
+    }
+
+    fn judge_builder(&mut self, line: &[u8], spoiled: bool) {
+        match builder_cases::judge(line) {
+            Some(case) => self.count_line(spoiled, case.kind as usize, case.agrees),
+            None => self.count(rows::UNREAD, false),
+        }
     }
 }

@@ -25,30 +25,18 @@ const WHOSE: usize = ONCE;
 pub const ELSEWHERE: usize = 27;
 
 // The row of a gateway call by its verdict.
-pub fn of_verdict(named: bool, verdict: u8) -> usize {
-    if named {
-        return VERDICTS + (verdict as usize);
-    }
-    UNREAD
+pub fn of_verdict(verdict: u8) -> usize {
+    VERDICTS + (verdict as usize)
 }
 
 // The row of a gateway call by whose answer it is.
-pub fn of_whose(named: bool, whose: u8) -> usize {
-    if named {
-        return WHOSE + (whose as usize);
-    }
-    UNREAD
+pub fn of_whose(whose: u8) -> usize {
+    WHOSE + (whose as usize)
 }
 
 // The row of a line that has a record made.
-pub fn of_making(named: bool, made: bool) -> usize {
-    if !named {
-        return UNREAD;
-    }
-    if made {
-        return RECORD_MADE;
-    }
-    RECORD_REFUSED
+pub fn of_making(made: bool) -> usize {
+    if made { RECORD_MADE } else { RECORD_REFUSED }
 }
 
 // The names of the rows, in their order.

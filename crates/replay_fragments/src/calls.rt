@@ -35,7 +35,7 @@ const STORE_WORDS: usize = 128;
 impl<'a> Store<'a> {
     // Makes the call: whether it is answered as it is to be, and leaves what it may not change.
     pub fn call(&mut self, call: Call<'_>) -> bool {
-        let mut space = vectors::clear_space();
+        let mut space: [u8; 70400] = vectors::filled(0);
         let old_bytes = vectors::front(&mut space, self.bytes.len());
         base::put(old_bytes, 0, self.bytes);
         let old_bits = self.bits;

@@ -7,7 +7,7 @@
 use crate::calls::Store;
 use crate::train::Train;
 use crate::{replays, rows};
-use vectors::Tally;
+use vectors::{Judge, Tally};
 use wire::bytes::byte_at;
 
 // The count so far, and the train that is listed.
@@ -38,23 +38,25 @@ const STORE_WORDS: usize = 129;
 
 const RUBBISH: u64 = 0xa5a5_a5a5_a5a5_a5a5;
 
-impl<'a> Run<'a> {
-    pub fn new(pool: &'a mut [u8], ends: &'a mut [usize]) -> Run<'a> {
-        Run {
-            tally: Tally::new(),
-            origin: 0,
-            train: Train::new(pool, ends),
-        }
-    }
-
+impl Judge for Run<'_> {
     // One more line, where it could be decoded. A blank line or a comment changes nothing.
-    pub fn take(&mut self, line: Option<&[u8]>) {
+    fn take(&mut self, line: Option<&[u8]>) {
         let understood = match line {
             Some(line) => self.understand(line),
             None => None,
         };
         if understood.is_none() {
             self.tally = self.tally.counted(rows::UNREAD, false);
+        }
+    }
+}
+
+impl<'a> Run<'a> {
+    pub fn new(pool: &'a mut [u8], ends: &'a mut [usize]) -> Run<'a> {
+        Run {
+            tally: Tally::new(),
+            origin: 0,
+            train: Train::new(pool, ends),
         }
     }
 
@@ -82,7 +84,7 @@ impl<'a> Run<'a> {
 
     // The calls of a spoiled replay are not counted.
     fn replay(&mut self, line: &[u8]) -> Option<()> {
-        let mut space = vectors::marked_space();
+        let mut space: [u8; 70400] = vectors::filled(vectors::MARK);
         let mut store = Store {
             state: replays::rubbish(),
             bytes: vectors::front(&mut space, STORE_BYTES),

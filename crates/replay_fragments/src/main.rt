@@ -7,13 +7,11 @@ mod calls;
 mod lines;
 mod replays;
 mod rows;
-mod spaces;
 mod train;
 
 use crate::lines::Run;
 use input::read_full;
 use std::io;
-use vectors::Tally;
 
 // The largest input, with a byte to spare.
 const TEXT_ROOM: usize = 1048576;
@@ -21,31 +19,17 @@ const TEXT_ROOM: usize = 1048576;
 const LONGEST_LINE: usize = 66000;
 
 fn main(rt: HostRuntime) -> io::Result<()> {
-    let mut text_space = vectors::large_space();
+    let mut text_space: [u8; 2097152] = vectors::filled(0);
     let text = vectors::front(&mut text_space, TEXT_ROOM);
     let n = read_full(&mut rt.reader(), text)?;
     if n == text.len() {
         return println!(rt; "input over 1048575");
     }
-    let mut line_space = vectors::clear_space();
+    let mut line_space: [u8; 70400] = vectors::filled(0);
     let line = vectors::front(&mut line_space, LONGEST_LINE);
-    let mut pool = spaces::largest_train();
-    let mut ends = spaces::most_items();
-    let part = vectors::part(text, 0, n);
-    rows::print(&rt, replayed(part, line, &mut pool, &mut ends))
-}
-
-fn replayed(text: &[u8], line: &mut [u8], pool: &mut [u8], ends: &mut [usize]) -> Tally {
-    let mut run = Run::new(pool, ends);
-    let mut at = 0;
-    while at < text.len() {
-        let read = vectors::decode(text, at, line);
-        at = read.next;
-        run.take(if read.whole {
-            Some(vectors::part(line, 0, read.len))
-        } else {
-            None
-        });
-    }
-    run.tally
+    let mut pool: [u8; 1048576] = vectors::filled(0);
+    let mut ends: [usize; 8191] = vectors::filled(0);
+    let mut run = Run::new(&mut pool, &mut ends);
+    vectors::replay(vectors::part(text, 0, n), line, &mut run);
+    rows::print(&rt, run.tally)
 }

@@ -23,41 +23,48 @@ const ORIGINS: u8 = 7;
 
 const LONGEST_FRAME: usize = 66000;
 
-pub fn judge(whole: bool, line: &[u8]) -> Case {
-    if !whole {
-        return Case::Unread;
+pub fn judge(line: Option<&[u8]>) -> Case {
+    match line {
+        None => Case::Unread,
+        Some(line) => {
+            if line.len() == 0 {
+                return Case::Blank;
+            }
+            compared(line).unwrap_or(Case::Unread)
+        }
     }
-    if line.len() == 0 {
-        return Case::Blank;
-    }
+}
+
+// None where the line is not of the form.
+fn compared(line: &[u8]) -> Option<Case> {
     let origin = byte_at(line, 1);
     if origin == 0 || ORIGINS < origin {
-        return Case::Unread;
+        return None;
     }
     let kind = byte_at(line, 0) % SPOILED;
     if expected::KINDS <= kind {
-        return Case::Unread;
+        return None;
     }
     let end = expected::end(kind);
     if line.len() < end + 4 {
-        return Case::Unread;
+        return None;
     }
     compare(line, kind, end)
 }
 
 // What is expected ends at `end`.
-fn compare(line: &[u8], kind: u8, end: usize) -> Case
+fn compare(line: &[u8], kind: u8, end: usize) -> Option<Case>
     requires { end ≤ 51 }
 {
     let written = vectors::rest(line, end + 4);
     let len = written.len() + (u32be(line, end) as usize);
     if LONGEST_FRAME < len {
-        return Case::Unread;
+        return None;
     }
-    let mut space = vectors::clear_space();
+    let mut space: [u8; 70400] = vectors::filled(0);
     let frame = vectors::front(&mut space, len);
     base::put(frame, 0, written);
-    outcome(line, reader::read(frame) == expected::reading(line, kind))
+    Some(outcome(line, reader::read(frame) == expected::reading(line, kind)))
 }
 
 fn outcome(line: &[u8], agrees: bool) -> Case {
@@ -67,7 +74,7 @@ fn outcome(line: &[u8], agrees: bool) -> Case {
     }
     Case::Compared {
         origin: byte_at(line, 1),
-        kind: kind,
-        agrees: agrees,
+        kind,
+        agrees,
     }
 }

@@ -8,30 +8,33 @@ mod rows;
 
 use input::read_full;
 use std::io;
-use vectors::Tally;
+use vectors::{Judge, Tally};
 
 // A frame of 66,000 bytes, and 55 bytes for what a line says of it.
 const LONGEST_LINE: usize = 66055;
 
 fn main(rt: HostRuntime) -> io::Result<()> {
-    let mut text = vectors::large_space();
+    let mut text: [u8; 2097152] = vectors::filled(0);
     let n = read_full(&mut rt.reader(), &mut text)?;
     if n == text.len() {
         return println!(rt; "input over 2097151");
     }
-    let mut space = vectors::clear_space();
+    let mut space: [u8; 70400] = vectors::filled(0);
     let line = vectors::front(&mut space, LONGEST_LINE);
-    rows::print(&rt, replayed(vectors::part(&text, 0, n), line))
+    let mut run = Run {
+        tally: Tally::new(),
+    };
+    vectors::replay(vectors::part(&text, 0, n), line, &mut run);
+    rows::print(&rt, run.tally)
 }
 
-fn replayed(text: &[u8], line: &mut [u8]) -> Tally {
-    let mut tally = Tally::new();
-    let mut at = 0;
-    while at < text.len() {
-        let read = vectors::decode(text, at, line);
-        at = read.next;
-        let case = cases::judge(read.whole, vectors::part(line, 0, read.len));
-        tally = rows::counted(tally, case);
+#[derive(Drop)]
+struct Run {
+    tally: Tally,
+}
+
+impl Judge for Run {
+    fn take(&mut self, line: Option<&[u8]>) {
+        self.tally = rows::counted(self.tally, cases::judge(line));
     }
-    tally
 }

@@ -13,7 +13,7 @@ mod tally;
 pub use driver::{Judge, replay};
 pub use lines::{Line, SPOILED, decode};
 pub use payload::lay_payload;
-pub use records::{network, same_network, same_record};
+pub use records::network;
 pub use slices::{front, part, rest};
 pub use spaces::{MARK, filled, is_marked};
 pub use tally::{Tally, print};

@@ -1,8 +1,8 @@
-// The network of lines that name none, and whether two records are the same in every field.
-ghost use Rattle.std.specs.Prelude.{◌≡◌, true, ◌↔◌};
+// The network of lines that name none.
+ghost use Rattle.std.specs.Prelude.{◌≡◌};
 ghost use Rattle.record.specs.Network.{document01};
 
-use record::{Guest, Network};
+use record::Network;
 
 const NETWORK: Network = Network {
     gateway: [10, 0, 2, 2],
@@ -16,16 +16,4 @@ pub fn network() -> Network
     ensures { result ≡ document01 }
 {
     NETWORK
-}
-
-pub fn same_record(a: Guest, b: Guest) -> bool
-    ensures { (result ≡ true) ↔ (a ≡ b) }
-{
-    a == b
-}
-
-pub fn same_network(a: Network, b: Network) -> bool
-    ensures { (result ≡ true) ↔ (a ≡ b) }
-{
-    a == b
 }

@@ -1,7 +1,0 @@
--- `answers::longest_payload` has the length that its contract says: by the lemma, since a check that walks the whole array is slow.
-use Rattle.std.proofs.Common.{ℕ, sym}
-use lib.ListN.{length-replicate}
-use Rattle.builder_cases.proofs.answers.longest_payload.Goals as goal
-
-pub returns : goal.returns
-returns c = sym (length-replicate {A = ℕ} 300032 0)
