@@ -8,9 +8,10 @@ import tempfile
 from collections import namedtuple
 from concurrent.futures import ThreadPoolExecutor
 
-from loops.comparison import Comparison, check, measure_of_function, measure_of_loop, quoted
+from loops.comparison import MEASURE, Comparison, check, measure_of_function, measure_of_loop, quoted
 from loops.library import EXPORTED, LIBRARY
 from loops.page import PAGE, code_in
+from loops.sources import WALKS
 
 SCRIPT = os.path.join(os.path.dirname(os.path.dirname(os.path.abspath(__file__))), "check-loops")
 
@@ -157,7 +158,12 @@ def changed_loops(library):
             said = f"the loop '{loop.head}' of '{function.title}'"
             for other in other_heads(loop.head):
                 yield Case(f"another head: {said}", change_head(function, loop, other), f"the loop '{other}' of '{function.title}' is not in")
-            yield from changed_measures(*measure_of_loop(library, function, loop), said)
+            proof, name, measure = measure_of_loop(library, function, loop)
+            if measure is None:
+                yield Case(f"a measure in the proof of a loop that had none: {said}", add_measure(proof, min(loop.names, key=len), loop),
+                           f"for {said} the number that falls is '1'")
+            else:
+                yield from changed_measures(proof, name, measure, said)
     for cycle in library.cycles():
         for function in cycle:
             yield from changed_measures(*measure_of_function(library, function), f"the recursion of '{function.title}'")
@@ -174,6 +180,13 @@ def change_head(function, loop, other):
     def edit(tree):
         text = tree.read(function.file)
         tree.write(function.file, text[:loop.start] + other + text[loop.end:])
+    return edit
+
+
+def add_measure(proof, name, loop):
+    """A measure for a loop whose proof has none."""
+    def edit(tree):
+        tree.write(proof, (tree.read(proof) if os.path.exists(os.path.join(tree.folder, proof)) else "") + f"\n{MEASURE}{name} l = 1\n")
     return edit
 
 
@@ -273,17 +286,18 @@ def new_calls(library):
                    "the exported function 'newly_exported' is not under 'Whole calls'")
     victim = first((f for f in library.exported()), "exported function")
     inner = first((f for f in library.functions if f.is_exported and f.module.crate == EXPORTED), "exported function below")
-    copying = first((f for f in library.functions if f.copies), "function that copies")
-    for function in (victim, inner):
-        yield Case(f"new copy in {path_to(function)}", into(function, "\n    a.copy_from_slice(b);"),
-                   f"the loop 'copy_from_slice' of '{function.title}' is not in {PAGE}")
-    yield Case("a second copy beside one", into(copying, "\n    a.copy_from_slice(b);"),
-               f"the loop 'copy_from_slice' of '{copying.title}' is not in {PAGE}")
-    yield Case("no copy any more", lambda tree: tree.replace(copying.file, ".copy_from_slice(", ".len("),
-               f"the function '{copying.title}' in {copying.file} has no loop 'copy_from_slice'")
-    for code in ("std::mem::swap(x, y)", "std::num::checked_add_u8(x, y)", "std::wrapping_add_u8(x, y)", "core::num::wrapping_add_u8(x, y)",
-                 "x.fill(3)", "x.iter()", "x.clone()", "x.sort()"):
-        word = code[:code.index("(")]
+    for walk in WALKS:
+        walking = first((f for f in library.functions if any(each.head == walk for each in f.walks)), f"call of '{walk}'")
+        for function in (victim, inner):
+            yield Case(f"new '{walk}' in {path_to(function)}", into(function, f"\n    a.{walk}(b);"),
+                       f"the loop '{walk}' of '{function.title}' is not in {PAGE}")
+        yield Case(f"a second '{walk}' beside one", into(walking, f"\n    a.{walk}(b);"),
+                   f"the loop '{walk}' of '{walking.title}' is not in {PAGE}")
+        yield Case(f"no '{walk}' any more", lambda tree, walking=walking, walk=walk: tree.replace(walking.file, f".{walk}(", ".len("),
+                   f"the function '{walking.title}' in {walking.file} has no loop '{walk}'")
+    for code in ("std::mem::swap(x, y)", "std::num::wrapping_add_u8(x, y)", "std::min(x, y)", "core::cmp::min(x, y)",
+                 "x.sum()", "x.for_each(f)", "x.clone()", "x.sort()", "x.sum::<8>()"):
+        word = code[:code.index("(")].removesuffix("::<8>")
         name = "." + word.split(".")[1] if "." in word else word
         yield Case(f"call of the standard library: {code}", into(inner, f"\n    {code};"), f"the call '{name}(..)' in '{inner.title}' leads to no function")
     yield Case("a function of the standard library under another name", lambda tree: (
@@ -301,6 +315,9 @@ def unread_things(library):
         ("a method of no type", "\n    x.nowhere_to_be(3);", "the call '.nowhere_to_be(..)' in"),
         ("a function of numbers that is not known", "\n    u32::nowhere(3);", "the call 'u32::nowhere(..)' in"),
         ("a macro", "\n    repeat!(7);", "can't read the macro 'repeat!'"),
+        ("a type behind a name", "\n    x.into_list::<Vec>();", "can't read '::<'"),
+        ("a call of nothing known in the macro that is known", "\n    matches!(nowhere_to_be(3), 7);", "the call 'nowhere_to_be(..)' in"),
+        ("a call of nothing known in a closure", "\n    x.map(|n| nowhere_to_be(n));", "the call 'nowhere_to_be(..)' in"),
         ("a function in a function", "\n    fn inner() { while i < 7 {} }", "can't read 'fn' in"),
         ("a use in a function", "\n    use crate::x;", "can't read 'use' in"),
         ("a call of an element", "\n    x[3](7);", "can't read a call of what is no name"),
@@ -319,11 +336,12 @@ def unread_things(library):
         ("all names of a module", "\nuse base::*;\n", "can't read '*' where a name was to be"),
         ("an attribute", "\n#[path = \"x.rt\"]\nmod m;\n", "can't read an attribute"),
         ("another unsafe attribute", "\n#[unsafe(naked)]\nfn f() {}\n", "can't read an attribute"),
-        ("a derive that may have loops", "\n#[derive(Clone, Copy, PartialEq)]\nstruct New { n: [u8; 7] }\n", "can't read an attribute"),
+        ("a derive that may have loops", "\n#[derive(Clone, Copy, Hash)]\nstruct New { n: [u8; 7] }\n", "can't read an attribute"),
         ("a function of C", '\nextern "C" {\n    fn f();\n}\n', "can't read '{' where 'fn' was to be"),
         ("a pointer to a function", "\nfn f(g: fn(u8) -> u8) {}\n", "can't read 'fn' in the parameters of 'f'"),
         ("an attribute of the whole file behind an item", "\n#![tactic(auto)]\n", "can't read '!' where a bracket was to be"),
         ("a trait's functions", "\nimpl A for B { fn f() { while true {} } }\n", "can't read 'for' in the head of an 'impl'"),
+        ("a function of a Model", "\nimpl Model for B { ghost view = { λ b. b }; fn f() { while true {} } }\n", "can't read 'fn' in an 'impl Model'"),
         ("a contract that does not end", "\nfn f()\n    ensures { λ r. { }\n", "can't read a contract that does not end"),
         ("braces in comments of two contracts",
          "\nfn f()\n    ensures { a -- {\n    }\n{\n    while true {}\n}\n\nfn g()\n    ensures { b -- }\n    }\n{\n}\n",
@@ -347,7 +365,8 @@ def trees_without_fault(library, page):
     contract = "\n    requires { while loop { for' } f(3) }\n    ensures named { «newly».now' ≡ loop }\n"
     yield Case("words in a contract", lambda tree: tree.append(root, "\nfn newly(n: u8) -> u8" + contract + "{\n    n\n}\n"), None)
     yield Case("words in a 'ghost use'", lambda tree: tree.append(root, "\nghost use Rattle.std.specs.Prelude.{while, loop, for'};\n"), None)
-    yield Case("functions that wrap", into(victim, "\n    std::num::wrapping_add_u8(3, 4);\n    std::num::wrapping_sub_u64(3, 4);"), None)
+    yield Case("what is known of the standard library", into(victim, "\n    std::cmp::min(3, 4);\n    x.wrapping_sub(4).to_be_bytes();\n    x.as_chunks::<2>();"), None)
+    yield Case("a Model", lambda tree: tree.append(root, "\nimpl Model for New {\n    ghost Value = { while };\n    ghost view = { λ n. n };\n}\n"), None)
     yield Case("a bracket that opens no call", into(victim, "\n    if (a) == (b) {}\n    (c) + match (d) { (e) => return (f), };"), None)
     head = looping.loops[0].head
     yield Case("a head over several lines", change_head(looping, looping.loops[0], head.replace(" ", " // at\n            ")), None)
