@@ -1,14 +1,17 @@
 """The library's Rattle sources as Rust with a counter in every loop. Rattle's text is Rust's but for a few places, so what is changed is little:
 
-1. `ghost use` lines, contracts (`requires { .. }`, `ensures { .. }`) and the attributes `tactic` and `cycle` are taken out: they are for the
-   proof, and no code.
+1. `ghost use` lines, contracts (`requires { .. }`, `ensures { .. }`), each `impl Model` and the attributes `tactic` and `cycle` are taken
+   out: they are for the proof, and no code.
 2. In the crate `host` the attribute of an exported name is taken out: what a library for other crates has of it exports nothing.
-3. `std::num::` becomes `rattle_num::`: the functions that the library names there are Rattle's own, which wrap as Rust's methods do.
-4. `extern "C"` becomes `extern "C-unwind"`, so that a sum that overflows ends the call and not the program.
-5. A loop's body starts with `turns::turn(K);`, the body of its function with `turns::run(K);`, and the body of a function that calls itself,
+3. `extern "C"` becomes `extern "C-unwind"`, so that a sum that overflows ends the call and not the program.
+4. A loop's body starts with `turns::turn(K);`, the body of its function with `turns::run(K);`, and the body of a function that calls itself,
    by way of others or not, with `let _call = turns::call(K);`. In the crate `sums`, where the length of the slice that its
    function is lent says how many turns a loop takes, that starts with `let _run = turns::run_over(K, SLICE.len());` instead.
-6. What is handed to `copy_from_slice` goes through `turns::copied(K, ..)`, which counts a turn for each byte.
+5. What is handed to `copy_from_slice`, what `fill` is called on and the test that `all` is handed go through `turns::copied(K, ..)`,
+   `turns::filled(K, ..)` and `turns::tested(K, ..)`, which count a turn for each byte or number.
+
+A loop that goes over as many places as a const parameter says has a counter too, and what it counts is left out of a whole call: the length
+is a number of the text's, as that of an array that is copied.
 
 Nothing else is changed: names, numbers, conditions, order and crates stay as they are.
 """
@@ -17,12 +20,14 @@ import subprocess
 from dataclasses import dataclass
 from pathlib import Path
 
-from loops.library import EXPORTED, FUNCTIONS_OF_STANDARD, LIBRARY, STANDARD, Library, lines_of_crates
+from loops.library import EXPORTED, LIBRARY, Library, lines_of_crates
 
-# Rust has a crate of the name that Rattle's has.
-NAME_OF_STANDARD = "rattle_num"
 # The length of what its function is lent says how many turns a loop of this file takes, so that each run has to take what a formula says.
 FILE_OF_THE_SUM = "crates/sums/src/lib.rt"
+
+
+# Which function counts what a method of the standard library goes over.
+WORDS_OF_WALKS = {"copy_from_slice": "copied", "fill": "filled", "all": "tested"}
 
 
 class CannotRun(Exception):
@@ -64,17 +69,21 @@ def without_ghosts(text):
     text = re.sub(r"^ghost use [^;]*;\n", "", text, flags=re.M)
     while found := re.search(r"\n\s*\b(?:requires|ensures)\b(?:\s+\w+)?\s*\{", plain(text)):
         text = text[:found.start()] + text[closing(plain(text), found.end() - 1) + 1:]
-    return text
+    while found := re.search(r"^impl Model for \w+ \{", text, flags=re.M):
+        text = text[:found.start()] + text[closing(plain(text), found.end() - 1) + 1:]
+    return text.replace("use std::marker::Model;\n", "")
 
 
 class Counters:
     """What has a counter, in the order of the counters: the loops, and the groups of functions that call each other."""
 
     def __init__(self, library):
-        self.numbers, self.loops, self.recursions = {}, [], []
+        self.numbers, self.loops, self.recursions, self.fixed = {}, [], [], []
         for function in library.functions:
-            for loop in function.loops + function.copies:
+            for loop in function.loops + function.walks:
                 self.numbers[function, loop] = len(self.loops)
+                if function.is_fixed(loop):
+                    self.fixed.append(len(self.loops))
                 self.loops.append(Counted(function.file, [function.title]))
         self.cycles = library.cycles()
         for cycle in self.cycles:
@@ -82,15 +91,20 @@ class Counters:
 
     def put_into(self, function, text):
         """The counters of one function, each with its place in the text of its file."""
-        head = "".join(" " + start_of_run(function, self.numbers[function, loop], text) for loop in function.loops + function.copies)
+        head = "".join(" " + start_of_run(function, self.numbers[function, loop], text) for loop in function.loops + function.walks)
         head += "".join(f" let _call = turns::call({number});" for number, cycle in enumerate(self.cycles) if function in cycle)
         yield function.body_start, head
         for loop in function.loops:
             yield text.index("{", loop.end) + 1, f" turns::turn({self.numbers[function, loop]});"
-        for copy in function.copies:
-            opened = text.index("(", copy.end)
-            yield opened + 1, f"turns::copied({self.numbers[function, copy]}, "
-            yield closing(plain(text), opened), ")"
+        for walk in function.walks:
+            word, number = WORDS_OF_WALKS[walk.head], self.numbers[function, walk]
+            opened = text.index("(", walk.end)
+            start, end = opened + 1, closing(plain(text), opened)
+            if walk.head == "fill":
+                # What is filled is a name, right before the method.
+                start, end = text.rindex(" ", 0, walk.start) + 1, text.rindex(".", 0, walk.start)
+            yield start, f"turns::{word}({number}, "
+            yield end, ")"
 
 
 def start_of_run(function, number, text):
@@ -98,10 +112,11 @@ def start_of_run(function, number, text):
     if function.file != FILE_OF_THE_SUM:
         return f"turns::run({number});"
     head = text[text.rindex(f"fn {function.name}(", 0, function.body_start):function.body_start]
-    slices = re.findall(r"(\w+): &\[", head)
+    slices = re.findall(r"(\w+): &\[(\[?)", head)
     if len(slices) != 1:
         raise CannotRun(f"{function.title} in {function.file} has a loop, and is not lent just one slice")
-    return f"let _run = turns::run_over({number}, {slices[0]}.len());"
+    name, is_of_arrays = slices[0]
+    return f"let _run = turns::run_over({number}, {name}{'.as_flattened()' if is_of_arrays else ''}.len());"
 
 
 def with_insertions(text, insertions):
@@ -111,10 +126,10 @@ def with_insertions(text, insertions):
 
 
 def as_rust(crate, text):
-    text = re.sub(r"^#(?:!\[tactic|\[cycle)\(\w+\)\]\n", "", without_ghosts(text), flags=re.M)
+    text = re.sub(r"^ *#!?\[(?:tactic|cycle)\(.*\)\]\n", "", without_ghosts(text), flags=re.M)
     if crate == EXPORTED:
         text = text.replace("#[unsafe(no_mangle)]\n", "")
-    return text.replace(f"{STANDARD}::num::", f"{NAME_OF_STANDARD}::").replace('extern "C" fn', 'extern "C-unwind" fn')
+    return text.replace('extern "C" fn', 'extern "C-unwind" fn')
 
 
 def crates_below(root, needs):
@@ -150,15 +165,6 @@ def own_crates(repository, library, counters):
         yield Crate(name, [crate for crate in crates_below(name, needs) if crate != name], texts)
 
 
-def standard_crate():
-    """The functions of Rattle's standard library that are known: they are those of Rust, whose methods have these names without the type's."""
-    texts = []
-    for _, name in sorted(FUNCTIONS_OF_STANDARD):
-        method, _, number = name.rpartition("_")
-        texts.append(f"#[inline]\npub fn {name}(a: {number}, b: {number}) -> {number} {{\n    a.{method}(b)\n}}\n")
-    return Crate(NAME_OF_STANDARD, [], {"lib": "\n".join(texts)})
-
-
 def compiled(words, folder):
     """Runs the Rust compiler with these words."""
     run = subprocess.run(["rustc", "--edition", "2021", "-O", "-C", "overflow-checks=on", "--cap-lints", "allow", "-L", folder, *words],
@@ -188,9 +194,10 @@ def driver_of(repository, folder, shipped=None):
     if library.faults:
         raise CannotRun("the sources can't be read: " + ": ".join(map(str, library.faults[0])))
     counters = Counters(library)
-    crates = [standard_crate(), *own_crates(repository, library, counters)]
+    crates = list(own_crates(repository, library, counters))
     here = Path(__file__).parent
-    parts = [(here / "turns.rs").read_text(), listed("LOOPS", counters.loops), listed("RECURSIONS", counters.recursions), longest_piece(crates)]
+    fixed = f"pub const FIXED: [usize; {len(counters.fixed)}] = {counters.fixed};\n"
+    parts = [(here / "turns.rs").read_text(), listed("LOOPS", counters.loops), listed("RECURSIONS", counters.recursions), fixed, longest_piece(crates)]
     (folder / "turns.rs").write_text("\n".join(parts))
     compiled(["--crate-type", "rlib", "--crate-name", "turns", "--out-dir", folder, folder / "turns.rs"], folder)
     for crate in crates:
@@ -198,7 +205,7 @@ def driver_of(repository, folder, shipped=None):
             file = (folder / crate.name / name).with_suffix(".rs")
             file.parent.mkdir(parents=True, exist_ok=True)
             file.write_text(text)
-        externs = [word for below in ["turns", *([NAME_OF_STANDARD] if crate.name != NAME_OF_STANDARD else []), *crate.needs]
+        externs = [word for below in ["turns", *crate.needs]
                    for word in ("--extern", f"{below}={folder}/lib{below}.rlib")]
         compiled(["--crate-type", "rlib", "--crate-name", crate.name, "--out-dir", folder, *externs, folder / crate.name / "lib.rs"], folder)
     program = folder / "driver"

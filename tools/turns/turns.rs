@@ -80,6 +80,22 @@ pub fn copied(k: usize, bytes: &[u8]) -> &[u8] {
     bytes
 }
 
+/// What is filled by loop `k`, a turn for each number.
+#[inline]
+pub fn filled<T>(k: usize, numbers: &mut [T]) -> &mut [T] {
+    add(&TURNS_OF_RUN[k], numbers.len() as u64);
+    numbers
+}
+
+/// The test of loop `k`, a turn for each byte that is tested.
+#[inline]
+pub fn tested(k: usize, mut test: impl FnMut(&u8) -> bool) -> impl FnMut(&u8) -> bool {
+    move |byte| {
+        turn(k);
+        test(byte)
+    }
+}
+
 /// One of the functions of recursion `k` is called; it has returned once this is dropped.
 pub fn call(k: usize) -> Call {
     add(&CALLS[k], 1);
@@ -107,9 +123,11 @@ pub struct Taken {
 }
 
 impl Taken {
-    /// All turns of all loops, and all calls of the recursions, each of which counts as a turn.
+    /// All turns of all loops but those of a length that the text fixes, and all calls of the recursions, each of which
+    /// counts as a turn.
     pub fn whole(&self) -> u64 {
-        self.turns.iter().chain(&self.calls).sum()
+        let fixed: u64 = FIXED.iter().map(|k| self.turns[*k]).sum();
+        self.turns.iter().chain(&self.calls).sum::<u64>() - fixed
     }
 }
 
@@ -144,4 +162,4 @@ pub fn counted() -> Taken {
     }
 }
 
-// Behind this line counted_sources.py writes what has a counter, LOOPS and RECURSIONS, in the order of the counters, and PIECE of `sums`.
+// Behind this line counted_sources.py writes what has a counter, LOOPS and RECURSIONS, in the order of the counters, FIXED and PIECE of `sums`.
