@@ -109,7 +109,7 @@ enum {
  *   - the mask is not ones followed by zeros, with at least 8 ones and at most 30;
  *   - the two addresses are equal, or not of one network; or
  *   - one of them is the lowest or the highest address of the network.
- * Every MAC and every lease time will do. The memory has to be initialised, with anything: on 9 it is written as it was read. */
+ * Every MAC and every lease time will do. The memory has to be initialised, with anything: on 9 it is left as it was. */
 uint32_t yavoledu_make_guest(yavoledu_guest *guest, const uint8_t mac[6], const uint8_t gateway[4], const uint8_t guest_ip[4],
                              const uint8_t mask[4], uint32_t lease_named, uint32_t lease);
 
