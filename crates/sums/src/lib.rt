@@ -7,6 +7,7 @@
 #![tactic(auto)]
 
 ghost use Rattle.std.specs.Prelude.{◌≡◌, ◌+◌, ◌*◌, ◌/◌, ◌%◌, ◌^◌, ◌<◌, ◌≤◌, length, flat_map};
+ghost use Rattle.std.specs.Int.{from_le_bytes, w16};
 ghost use Rattle.sums.specs.Folding.{fold_to32, longest_piece, most_behind, most_folded};
 ghost use Rattle.sums.specs.Rfc1071.{total, fold, checksum as Rfc1071·checksum};
 
@@ -60,9 +61,18 @@ fn eights_behind(so_far: u64, eights: &[[u8; 8]]) -> u64
     for eight in eights {
         let next = u64::from_le_bytes(*eight);
         all = all.wrapping_add(next);
-        upper += next / 4294967296;
+        upper = with_upper_half(upper, next);
     }
     lower_halves(all, upper) + upper
+}
+
+// The upper half of a step's eight bytes added to those of the steps before it.
+fn with_upper_half(upper: u64, next: u64) -> u64
+    requires { upper + 4294967295 < 2 ^ 64 }
+    ensures value { result ≡ upper + next / 2 ^ 32 }
+    ensures upper_bound { result ≤ upper + 4294967295 }
+{
+    upper + next / 4294967296
 }
 
 // The sum of the lower halves, from the sum of all modulo 2^64 and the sum of the upper halves.
@@ -82,7 +92,7 @@ fn with_tail(so_far: u64, rest: &[u8]) -> u64
     let mut running = so_far;
     let (words, odd) = rest.as_chunks::<2>();
     for word in words {
-        running += u64::from(u16::from_le_bytes(*word));
+        running = with_word(running, *word);
     }
     if let [last] = odd {
         running += u64::from(*last);
@@ -95,6 +105,15 @@ fn folded(total: u64) -> u16
     ensures { result ≡ fold total }
 {
     folded_to_16(folded_to_32(total))
+}
+
+// One step of the tail: a word added, low byte first.
+fn with_word(running: u64, word: [u8; 2]) -> u64
+    requires { running + 65535 < 2 ^ 64 }
+    ensures value { result ≡ running + from_le_bytes w16 word }
+    ensures upper_bound { result ≤ running + 65535 }
+{
+    running + u64::from(u16::from_le_bytes(word))
 }
 
 // Two folds are enough for 64 bits: the first leaves at most 8,589,934,590, the second at most 4,294,967,295.

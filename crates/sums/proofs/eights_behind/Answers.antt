@@ -7,8 +7,8 @@ use Rattle.sums.proofs.Chunks.{fold_step, joined_from, none_joined}
 use Rattle.sums.proofs.eights_behind.Goals as goal
 
 -- what is carried out of the sum of all is lost, and the sum of the lower halves is not
-wrapped : (a l u next : ℕ) → a ≡ (l + u * 2 ^ 32) % 2 ^ 64 → (a + next) % 2 ^ 64 ≡ (l + next % 2 ^ 32 + (u + next / 2 ^ 32) * 2 ^ 32) % 2 ^ 64
-wrapped a l u next e = omega arith
+wrapped : (a l u x y : ℕ) → a ≡ (l + u * 2 ^ 32) % 2 ^ 64 → (a + (x + y * 2 ^ 32)) % 2 ^ 64 ≡ (l + x + (u + y) * 2 ^ 32) % 2 ^ 64
+wrapped a l u x y e = omega arith
 
 unwrapped : (r l u : ℕ) → (r + u) % 2 ^ 64 ≡ (l + u) % 2 ^ 64 → r < 2 ^ 64 → l < 2 ^ 64 → r ≡ l
 unwrapped r l u e h k = omega arith
@@ -36,9 +36,11 @@ loop-eight-preserved c =
     let halves = l.invariant in
     let so_far = halves.lower + l.upper in record {
       lower = halves.lower + next % 2 ^ 32;
-      tells = wrapped l.all halves.lower l.upper next halves.tells;
+      tells = ap (λ (n : ℕ). (l.all + n) % 2 ^ 64) {x = next} {y = next % 2 ^ 32 + next / 2 ^ 32 * 2 ^ 32} (omega arith)
+          ∙ wrapped l.all halves.lower l.upper (next % 2 ^ 32) (next / 2 ^ 32) halves.tells
+          ∙ ap (λ (n : ℕ). (halves.lower + next % 2 ^ 32 + n * 2 ^ 32) % 2 ^ 64) (sym c.with_upper_half-upper.ensures.value);
       folds =
-          ap fold (omega arith)
+          ap fold (omega (arith, c.with_upper_half-upper.ensures.value))
           ∙ halved so_far next (total behind)
           ∙ ap (λ (n : ℕ). fold ((so_far + n) * 256 + total behind)) c.from_le_bytes-next.ensures
           ∙ fold_step eight behind so_far (c.told-eights l.eight-index (omega arith))

@@ -11,7 +11,7 @@ loop-word-preserved c =
     let s = c.as_chunks.result.0.now in
     let word = get_or s l.word-index [] in
     let behind = flat_map (λ (e : List ℕ). e) (drop (l.word-index + 1) s) in (
-      ap (λ (n : ℕ). fold ((l.running + n) * 256 + total behind)) (c.from-running.ensures ∙ c.from_le_bytes.ensures)
+      ap (λ (n : ℕ). fold (n * 256 + total behind)) c.with_word-running.ensures.value
           ∙ fold_word word behind l.running (word_length c.args.rest.now s l.word-index c.as_chunks.ensures.front (omega arith))
           ∙ ap (λ (left : List ℕ). fold (l.running * 256 + total left)) (sym (joined_from s l.word-index (omega arith)))
           ∙ l.invariant.0,
@@ -32,7 +32,7 @@ returns-in-len1-clause-result_value c =
     let l = c.loop-word in
     let words = c.as_chunks.result.0.now in
     let odd = c.as_chunks.result.1.now in
-    let last = c.from-running-in-len1.result in
+    let last = c.from-running.result in
     ap fold (omega (arith, none_joined words l.word-index (omega arith)))
     ∙ fold_with (l.running * 256 + total (flat_map (λ (e : List ℕ). e) (drop l.word-index words))) _ (last * 256) l.invariant.0
-    ∙ ap fold (omega (arith, c.from-running-in-len1.ensures, total_words c.args.rest.now words odd c.as_chunks.ensures.front c.as_chunks.ensures.back, total_last odd 0 (omega arith)))
+    ∙ ap fold (omega (arith, c.from-running.ensures, total_words c.args.rest.now words odd c.as_chunks.ensures.front c.as_chunks.ensures.back, total_last odd 0 (omega arith)))
