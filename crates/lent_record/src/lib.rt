@@ -16,6 +16,8 @@ pub fn send(guest: &mut Guest, frame: &[u8], reply: &mut [u8]) -> Result<Verdict
         reply.old reply.new (record { verdict = result; guest = guest.new }) }
 {
     let answer = handle(*guest, frame, reply);
-    *guest = answer.guest;
+    // No call changes the rest of a record. `*guest = answer.guest` was tried: a drop took 83 instructions, not 60.
+    guest.id = answer.guest.id;
+    guest.xid = answer.guest.xid;
     answer.verdict
 }
