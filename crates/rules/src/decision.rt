@@ -2,11 +2,10 @@
 ghost use Rattle.std.specs.Prelude.{◌≡◌};
 ghost use Rattle.rules.specs.Rules.{decision, arp_decision, ip_decision, icmp_decision, udp_decision, dhcp_decision};
 
-use std::cmp::min;
-
 use dhcp_message::reply_type;
 use options::message_type;
 use record::{Network, Refusal};
+use std::cmp::min;
 use wire::bytes::{byte_at, bytes_at, u16be, u32be};
 use wire::ethernet::eth_type;
 use wire::ipv4::{ip_dst, ip_hlen, ip_proto};
@@ -107,7 +106,7 @@ fn decide_icmp(net: Network, frame: &[u8]) -> Result<Decision, Refusal>
     Ok(Decision::EchoReply { start })
 }
 
-// So it is here.
+// Here too the payload runs to the end of the frame.
 #[tactic(auto, using(std::proofs::lemmas::Bool::Decides::nat_tests), unfolding(crate::specs::Rules::udp_decision))]
 fn decide_udp(net: Network, frame: &[u8]) -> Result<Decision, Refusal>
     ensures { result ≡ udp_decision net frame.now }
