@@ -43,6 +43,16 @@ length_hex (byte ∷ bytes) = let rest : length (hex bytes) ≡ 2 * length bytes
 pub hex_more : (bytes : List ℕ) (i : ℕ) → i < length bytes → hex (take (i + 1) bytes) ≡ hex (take i bytes) ++ hex (get_or bytes i 0 ∷ [])
 hex_more bytes i h = rw (add-one, take-suc bytes i 0) (hex_append (take i bytes) (get_or bytes i 0 ∷ []))
 
+pub spaced_append : (a b : List ℕ) → spaced (a ++ b) ≡ spaced a ++ spaced b
+spaced_append [] b = refl
+spaced_append (n ∷ a) b = ap (λ (l : List ℕ). ascii " " ++ decimal n ++ l) (spaced_append a b) ∙ simp append_assoc
+
+-- one number more
+pub spaced_more : (numbers : List ℕ) (i : ℕ) → i < length numbers → spaced (take (i + 1) numbers) ≡ spaced (take i numbers) ++ (ascii " " ++ decimal (get_or numbers i 0))
+spaced_more numbers i h =
+    rw (add-one, take-suc numbers i 0)
+    (spaced_append (take i numbers) (get_or numbers i 0 ∷ []) ∙ ap (λ (l : List ℕ). spaced (take i numbers) ++ l) (simp append-nil))
+
 -- a word and two numbers, piece by piece
 pub two_numbers : (word : List ℕ) (a b : ℕ)
     → word ++ (ascii " " ++ decimal a) ++ (ascii " " ++ decimal b) ++ ascii "\n" ≡ word ++ spaced (a ∷ b ∷ []) ++ ascii "\n"

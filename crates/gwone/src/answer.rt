@@ -5,7 +5,7 @@ ghost use Rattle.record.specs.Answer.{paper};
 ghost use Rattle.record.specs.Guest.{fresh};
 ghost use Rattle.record.specs.Network.{document01};
 ghost use Rattle.gwone.specs.Text.{Added, IsPrefixLen, ascii, hex};
-ghost use Rattle.gwone.specs.Printed.{spaced, answer_text, guest_mac_lem, printed, room};
+ghost use Rattle.gwone.specs.Printed.{spaced, answer_text, guest_mac_lem, printed};
 
 use crate::text::{add, add_hex, add_number};
 use making::make;
@@ -31,26 +31,6 @@ const TOO_LONG: usize = 6;
 
 const CUT_TYPE: usize = 7;
 
-// The longest frame that is taken, and a byte more.
-pub fn input_space() -> [u8; 2049]
-    ensures { 2049 ≡ length result }
-{
-    [0; 2049]
-}
-
-// Space for a line of 64 bytes and one of 2,048 bytes in hex.
-pub fn text_space() -> [u8; 4224]
-    ensures { 4224 ≡ length result }
-{
-    [0; 4224]
-}
-
-fn reply_space() -> [u8; 2048]
-    ensures { result ≡ room }
-{
-    [0; 2048]
-}
-
 fn new_guest() -> Guest
     ensures { result ≡ fresh guest_mac_lem document01 }
 {
@@ -66,7 +46,7 @@ pub fn add_printed(input: &[u8], text: &mut [u8]) -> usize
     if FRAME_LIMIT < input.len() {
         return add(text, 0, b"input over 2048\n");
     }
-    let mut reply = reply_space();
+    let mut reply = [0; 2048];
     let answer = slirp::handle(new_guest(), input, &mut reply);
     add_answer(text, answer.verdict, &reply)
 }
@@ -82,37 +62,27 @@ fn add_answer(text: &mut [u8], verdict: Result<Verdict, Refusal>, buffer: &[u8])
     match verdict {
         Ok(Verdict::Drop) => add(text, 0, b"drop\n"),
         Ok(Verdict::Reply(n)) => add_reply(text, n, front(buffer, n)),
-        Ok(Verdict::Dns { start, len }) => add_two(text, b"dns", start, len),
-        Ok(Verdict::Relay { start, len }) => add_two(text, b"relay", start, len),
-        Ok(Verdict::Tcp(len)) => add_one(text, b"tcp", len),
-        Err(Refusal::NoRoom(needed)) => add_two(text, b"refused", NO_ROOM, needed),
-        Err(Refusal::TooLong(len)) => add_two(text, b"refused", TOO_LONG, len),
-        Err(Refusal::CutType(place)) => add_two(text, b"refused", CUT_TYPE, place),
+        Ok(Verdict::Dns { start, len }) => add_line(text, b"dns", &[start, len]),
+        Ok(Verdict::Relay { start, len }) => add_line(text, b"relay", &[start, len]),
+        Ok(Verdict::Tcp(len)) => add_line(text, b"tcp", &[len]),
+        Err(Refusal::NoRoom(needed)) => add_line(text, b"refused", &[NO_ROOM, needed]),
+        Err(Refusal::TooLong(len)) => add_line(text, b"refused", &[TOO_LONG, len]),
+        Err(Refusal::CutType(place)) => add_line(text, b"refused", &[CUT_TYPE, place]),
     }
 }
 
-// A line of a word and one number.
-fn add_one(text: &mut [u8], word: &[u8], number: usize) -> usize
+// A line of a word and at most two numbers.
+fn add_line(text: &mut [u8], word: &[u8], numbers: &[usize]) -> usize
     requires in_bounds { 64 ≤ length text.old }
     requires word_len_bound { length word.now ≤ 7 }
-    ensures added { Added 0 (word.now ++ spaced (number ∷ []) ++ ascii "\n") text.old text.new result }
+    requires numbers_len_bound { length numbers.now ≤ 2 }
+    ensures added { Added 0 (word.now ++ spaced numbers.now ++ ascii "\n") text.old text.new result }
     ensures upper_bound { result ≤ 64 }
 {
-    let at = add(text, 0, word);
-    let at = add_number(text, at, number);
-    add(text, at, b"\n")
-}
-
-// A line of a word and two numbers.
-fn add_two(text: &mut [u8], word: &[u8], first: usize, second: usize) -> usize
-    requires in_bounds { 64 ≤ length text.old }
-    requires word_len_bound { length word.now ≤ 7 }
-    ensures added { Added 0 (word.now ++ spaced (first ∷ second ∷ []) ++ ascii "\n") text.old text.new result }
-    ensures upper_bound { result ≤ 64 }
-{
-    let at = add(text, 0, word);
-    let at = add_number(text, at, first);
-    let at = add_number(text, at, second);
+    let mut at = add(text, 0, word);
+    for number in numbers {
+        at = add_number(text, at, *number);
+    }
     add(text, at, b"\n")
 }
 
@@ -123,7 +93,7 @@ fn add_reply(text: &mut [u8], n: usize, bytes: &[u8]) -> usize
     ensures added { Added 0 (ascii "reply" ++ spaced (n ∷ []) ++ ascii "\n" ++ hex bytes.now ++ ascii "\n") text.old text.new result }
     ensures upper_bound { result ≤ 4224 }
 {
-    let at = add_one(text, b"reply", n);
+    let at = add_line(text, b"reply", &[n]);
     let at = add_hex(text, at, bytes);
     add(text, at, b"\n")
 }

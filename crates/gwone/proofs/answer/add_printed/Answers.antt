@@ -1,4 +1,5 @@
 -- `answer::add_printed` adds one text for an input that is too long, and else the text of what the gateway promises.
+use mathlib.Core.Path.{refl}
 use native.Mathlib.Omega.{arith}
 use borrow.Author.Tests.{lt-ltb, le-ltb}
 use Rattle.gwone.specs.Printed.{printed}
@@ -17,7 +18,7 @@ returns-then-input-gt-FRAME_LIMIT c =
 pub returns : goal.returns
 unfolding printed
 returns c =
-    let right = call_text _ _ _ _ _ c.new_guest.ensures c.reply_space-reply.ensures c.handle-answer.ensures in
+    let right = call_text _ _ _ _ _ c.new_guest.ensures refl c.handle-answer.ensures in
     record {
       added = rw (le-ltb _ _ c.if-input-gt-FRAME_LIMIT.false) (reworded right c.add_answer.ensures.added);
       prefix_len = counted _ _ (omega arith);

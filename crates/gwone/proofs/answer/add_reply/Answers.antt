@@ -10,7 +10,7 @@ add-requires c = omega (arith, length_hex c.args.bytes.now)
 pub returns : goal.returns
 returns c =
     let short : c.add.result ≤ 4224 = omega (arith, length_hex c.args.bytes.now) in
-    let line-hex = both (omega arith) c.add_one-at.ensures.added c.add_hex-at.ensures in
+    let line-hex = both (omega arith) c.add_line-at.ensures.added c.add_hex-at.ensures in
     record {
       added = both (omega arith) line-hex c.add.ensures;
       upper_bound = short;
