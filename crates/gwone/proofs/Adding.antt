@@ -52,11 +52,3 @@ pub spaced_more : (numbers : List ℕ) (i : ℕ) → i < length numbers → spac
 spaced_more numbers i h =
     rw (add-one, take-suc numbers i 0)
     (spaced_append (take i numbers) (get_or numbers i 0 ∷ []) ∙ ap (λ (l : List ℕ). spaced (take i numbers) ++ l) (simp append-nil))
-
--- a word and two numbers, piece by piece
-pub two_numbers : (word : List ℕ) (a b : ℕ)
-    → word ++ (ascii " " ++ decimal a) ++ (ascii " " ++ decimal b) ++ ascii "\n" ≡ word ++ spaced (a ∷ b ∷ []) ++ ascii "\n"
-two_numbers word a b = pieces word (ascii " " ++ decimal a) (ascii " " ++ decimal b) (ascii "\n")
-  where
-    pieces : (w x y z : List ℕ) → w ++ x ++ y ++ z ≡ w ++ (x ++ (y ++ [])) ++ z
-    pieces w x y z = simp (append-nil, append_assoc)
