@@ -152,6 +152,7 @@ fn decide_dhcp(message: &[u8]) -> Result<Decision, Refusal>
         return Ok(Decision::DropNoting(xid));
     }
     let received = message_type(message).map_err(|cut| Refusal::CutType(cut.0))?;
+    // By a closure: tried with the function's name alone, and the check finds no contract for that in another crate.
     let Some(kind) = received.and_then(|kind| reply_type(kind)) else {
         return Ok(Decision::DropNoting(xid));
     };
