@@ -1,9 +1,8 @@
 -- The text of a call's answer is the text of what is to come of the call.
-use Prim.Native.Nat.{ℕ, ◌≤◌}
-use mathlib.Core.Path.{◌≡◌, sym, ap₂}
+use Prim.Native.Nat.{ℕ}
+use mathlib.Core.Path.{◌≡◌, ap₂}
 use mathlib.Core.List.{List}
-use lib.ListN.{length, take, length-replicate}
-use lib.Seq.{length-take-le}
+use lib.ListN.{length, length-replicate}
 use Rattle.record.specs.Answer.{Meets, paper}
 use Rattle.record.specs.Guest.{fresh}
 use Rattle.record.specs.Network.{document01}
@@ -19,7 +18,3 @@ pub call_text : (guest : Guest) (input before after : List ℕ) (answer : Answer
 call_text guest input before after answer g b meets =
     let known = rw (g, b, length-replicate {A = ℕ} 2048 0) at meets in
     ap₂ answer_text known.wrote.numbers known.wrote.bytes
-
--- a count of bytes within a buffer, as a part of it asks it
-pub counted : (n : ℕ) (s : List ℕ) → n ≤ length s → (n ≤ length s) × (n ≡ length (take n s))
-counted n s h = (h, sym (length-take-le n s h))

@@ -12,13 +12,9 @@ use Rattle.record.specs.declared.guest.Guest.{Guest}
 use Rattle.record.specs.declared.answer.Verdict.{Verdict}
 use Rattle.record.specs.declared.answer.Verdict.TheVariants.{Reply}
 use Rattle.record.specs.declared.answer.Refusal.{Refusal}
-use Rattle.grammar.specs.Report.{Reads}
-use Rattle.host.specs.Parts.{Reported, number_of, places_of}
 use Rattle.host.specs.Exported.{Built, Told}
 use Rattle.verdict_numbers.specs.Numbers.{padded}
-use Rattle.std.proofs.Common.{Option, Result, Ok, Err, MatchResult, IsOkAnd}
-use Rattle.reader.specs.Reported.{report_of}
-use Rattle.reader.specs.declared.parts.Reading.{Reading}
+use Rattle.std.proofs.Common.{Result, Ok, Err, MatchResult, IsOkAnd}
 
 -- the number and the first value, from what is told
 pub told_number : (numbers : List ℕ) → get_or (padded numbers) 0 0 ≡ get_or numbers 0 0
@@ -58,8 +54,3 @@ built_of limit len need room image used lent e meets told stored =
       told = λ guest same. rw (same ∙ sym e) (told_of meets.wrote told);
       id = λ guest same. stored ∙ ap (λ (g : Guest). g.id) meets.guest ∙ id_after (ltb limit len) (ltb room need) used guest (same ∙ sym e);
     }
-
-pub reported_of : {frame before after : List ℕ} {answer : ℕ} {r s : Option Reading}
-    → Reads frame (report_of r) → r ≡ s → answer ≡ number_of (report_of s) → after ≡ places_of before (report_of s) → Reported frame before after answer
-reported_of {frame = frame} {s = s} reads e number places =
-    record { report = report_of s; reads = rw (sym e) reads; number = number; parts = places }

@@ -16,6 +16,7 @@ const OUTSIDE: u32 = 8;
 
 // The kind, from 1 in document 01's order, and the parts; or 8, and `parts` is left alone.
 #[unsafe(no_mangle)]
+#[tactic(auto, unfolding(reader::specs::Reported::report_of, crate::specs::Parts::number_of, crate::specs::Parts::kind_number, crate::specs::Parts::places_of, crate::specs::Parts::places))]
 pub extern "C" fn yavoledu_read(frame: &[u8], parts: &mut [usize; 13]) -> u32
     ensures { Reported frame.now parts.old parts.new result }
 {
@@ -59,6 +60,7 @@ pub extern "C" fn yavoledu_read(frame: &[u8], parts: &mut [usize; 13]) -> u32
 }
 
 // Writes the places of four layers and the message type, and hands the kind back.
+#[tactic(auto, unfolding(crate::specs::Parts::places))]
 fn lay(
     kind: u32,
     a: Layer,

@@ -1,25 +1,17 @@
 -- `answer::add_printed` adds one text for an input that is too long, and else the text of what the gateway promises.
 use mathlib.Core.Path.{refl}
-use native.Mathlib.Omega.{arith}
 use borrow.Author.Tests.{lt-ltb, le-ltb}
 use Rattle.gwone.specs.Printed.{printed}
 use Rattle.gwone.proofs.Adding.{reworded}
-use Rattle.gwone.proofs.Called.{call_text, counted}
+use Rattle.gwone.proofs.Called.{call_text}
 use Rattle.gwone.proofs.answer.add_printed.Goals as goal
 
-pub returns-then-input-gt-FRAME_LIMIT : goal.returns-then-input-gt-FRAME_LIMIT
+pub returns-then-input-gt-FRAME_LIMIT-clause-added : goal.returns-then-input-gt-FRAME_LIMIT-clause-added
 unfolding printed
-returns-then-input-gt-FRAME_LIMIT c =
-    record {
-      added = rw (lt-ltb _ _ c.if-input-gt-FRAME_LIMIT.true) c.add.ensures;
-      prefix_len = counted _ _ (omega arith);
-    }
+returns-then-input-gt-FRAME_LIMIT-clause-added c = rw (lt-ltb _ _ c.if-input-gt-FRAME_LIMIT.true) c.add.ensures
 
-pub returns : goal.returns
+pub returns-clause-added : goal.returns-clause-added
 unfolding printed
-returns c =
-    let right = call_text _ _ _ _ _ c.new_guest.ensures refl c.handle-answer.ensures in
-    record {
-      added = rw (le-ltb _ _ c.if-input-gt-FRAME_LIMIT.false) (reworded right c.add_answer.ensures.added);
-      prefix_len = counted _ _ (omega arith);
-    }
+returns-clause-added c =
+    rw (le-ltb _ _ c.if-input-gt-FRAME_LIMIT.false)
+    (reworded (call_text _ _ _ _ _ c.new_guest.ensures refl c.handle-answer.ensures) c.add_answer.ensures.added)

@@ -6,6 +6,3 @@ use Rattle.gwone.proofs.answer.new_guest.Goals as goal
 
 pub unwrap-requires : goal.unwrap-requires
 unwrap-requires c = grind (arith, good_is_made c.make.ensures document01_good)
-
-pub returns : goal.returns
-returns c = grind (arith, good_is_made c.make.ensures document01_good)
