@@ -133,7 +133,8 @@ fn folded_once(total: u64) -> u64
     total / 4294967296 + total % 4294967296
 }
 
-// Two folds are enough for 32 bits: the first leaves at most 131,070, the second at most 65,535.
+// Two folds are enough for 32 bits: the first leaves at most 131,070, the second at most 65,535. (The same as
+// `folded_to_32` at half the width: a trait of widths would be longer than the two, and so no plainer.)
 fn folded_to_16(total: u32) -> u16
     ensures { result ≡ fold total }
 {
@@ -150,7 +151,7 @@ fn exchanged(n: u16) -> u16
 }
 
 // The same sum as `sum`, as a reader would write it: two bytes a step, the high one first, with a fold at each.
-// No exported function calls it.
+// No exported function calls it; that both agree is a theorem (`wide_and_plain_agree`), so both stay.
 pub fn plain(start: u16, input: &[u8]) -> u16
     ensures { result ≡ fold (start + total input.now) }
 {
