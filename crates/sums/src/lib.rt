@@ -22,7 +22,9 @@ pub fn checksum(input: &[u8]) -> u16
 }
 
 // The folded sum `start` continued over `input`. So several inputs are summed with no copy that
-// joins them, as long as each but the last has an even length.
+// joins them, as long as each but the last has an even length. As a call of its own it cost a TCP frame without data 41
+// instructions more.
+#[inline]
 pub fn sum(start: u16, input: &[u8]) -> u16
     ensures { result ≡ fold (start + total input.now) }
 {
