@@ -36,7 +36,7 @@ impl<'a> Expected<'a> {
 }
 
 // The verdict has the number and the value, and the buffer holds what belongs to them: the head and
-// the payload where a frame was built, and its marks everywhere else.
+// the payload where a frame was built, and its marks everywhere else. (A line has the verdict as a number.)
 pub fn is_expected(
     number: u8,
     value: usize,

@@ -8,7 +8,8 @@ use record::{Guest, Network, Refusal, Verdict};
 use wire::bytes::{byte_at, bytes_at, u16be, u32be};
 
 // A call on document 01's network with id and xid before it, one that goes on with the record that the
-// last one left, and one with its network before id and xid.
+// last one left, and one with its network before id and xid. (As numbers: a line has its kind as a byte, and
+// `is_call` and `fields_of` promise by it.)
 const WITH_RECORD: u8 = 13;
 
 const GOES_ON: u8 = 14;

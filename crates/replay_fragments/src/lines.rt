@@ -18,6 +18,7 @@ pub struct Run<'a> {
     train: Train<'a>,
 }
 
+// What a line is. (As numbers: a line has it as a byte, and it is looked at once.)
 const TRAIN: u8 = 0;
 
 const FRAME: u8 = 1;

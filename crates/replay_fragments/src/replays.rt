@@ -42,7 +42,9 @@ pub fn replayed(
     for step in vectors::rest(line, 1).chunks(STEP_SIZE) {
         let call = read_step(step, train)?;
         let agrees = store.call(call);
-        replay.tally = replay.tally.counted(rows::row_of(call.answer), agrees);
+        if let Some(row) = rows::row_of(call.answer) {
+            replay.tally = replay.tally.counted(row, agrees);
+        }
         replay.agrees &= agrees;
     }
     Some(replay)

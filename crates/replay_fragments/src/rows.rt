@@ -17,14 +17,12 @@ const FIRST_REFUSAL: u8 = 10;
 
 const ANSWERS: usize = 4;
 
-const NO_ROW: usize = 32;
-
-// The row of a call that is to be answered so.
-pub fn row_of(answer: u8) -> usize {
+// The row of a call that is to be answered so. (An answer stays a number: a line has it as one.)
+pub fn row_of(answer: u8) -> Option<usize> {
     match answer {
-        0..=3 => CALLS + usize::from(answer),
-        10..=13 => CALLS + ANSWERS + usize::from(answer - FIRST_REFUSAL),
-        _ => NO_ROW,
+        0..=3 => Some(CALLS + usize::from(answer)),
+        10..=13 => Some(CALLS + ANSWERS + usize::from(answer - FIRST_REFUSAL)),
+        _ => None,
     }
 }
 

@@ -5,6 +5,7 @@ ghost use Rattle.std.specs.Prelude.{◌≤◌, ◌<◌};
 use reader::{Layer, Reading};
 use wire::bytes::{byte_at, u32be};
 
+// The kinds. (As numbers: a line has its kind as a byte, and the tally a row at that number.)
 const OUTSIDE: u8 = 0;
 
 const ARP: u8 = 1;
