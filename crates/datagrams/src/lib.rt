@@ -23,7 +23,8 @@ pub struct UdpDatagram {
     pub len: u16,
 }
 
-// A datagram around `data`. Its checksum covers the addresses of the packet that it is to lie in.
+// A datagram around `data`. Its checksum covers the addresses of the packet that it is to lie in. (README names it with
+// these parameters, so they stay one by one.)
 pub fn make_udp_payload(
     src_ip: [u8; 4],
     src_port: u16,

@@ -92,7 +92,7 @@ fn write_reply_of(net: Network, mac: [u8; 6], xid: u32, kind: u8, reply: &mut [u
     write_reply(fields, kind, option_values(net), reply);
 }
 
-// The rows: server identifier, lease time, subnet mask, router, name server.
+// The rows: server identifier, lease time, subnet mask, router, name server. (Document 01 has them as rows by value.)
 fn option_values(net: Network) -> [[u8; 4]; 5]
     ensures { result ≡ Pieces·values net }
 {

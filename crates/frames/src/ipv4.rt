@@ -27,7 +27,8 @@ pub struct Packet {
     pub dst_ip: [u8; 4],
 }
 
-// A frame around `payload`, to `dst_mac` from the gateway.
+// A frame around `payload`, to `dst_mac` from the gateway. (README names this function and the next with these parameters,
+// so they stay one by one; what is no public promise takes a `Packet`.)
 pub fn make_ip_frame(
     guest: Guest,
     dst_mac: [u8; 6],
