@@ -5,16 +5,15 @@ use mathlib.Core.List.{List, [], ◌∷◌}
 use mathlib.Core.Path.{◌≡◌, refl, sym, ap, ◌∙◌}
 use lib.Dec.{ltb}
 use lib.ListN.{get_or}
-use Rattle.record.specs.Answer.{Meets, Writing, Wrote, as_verdict, paper, spending}
+use Rattle.record.specs.Answer.{Meets, Writing, Wrote, paper, spending}
 use Rattle.record.specs.Guest.{spent, with_id}
 use Rattle.record.specs.declared.answer.Answer.{Answer}
 use Rattle.record.specs.declared.guest.Guest.{Guest}
 use Rattle.record.specs.declared.answer.Verdict.{Verdict}
-use Rattle.record.specs.declared.answer.Verdict.TheVariants.{Reply}
 use Rattle.record.specs.declared.answer.Refusal.{Refusal}
 use Rattle.host.specs.Exported.{Built, Told}
 use Rattle.verdict_numbers.specs.Numbers.{padded}
-use Rattle.std.proofs.Common.{Result, Ok, Err, MatchResult, IsOkAnd}
+use Rattle.std.proofs.Common.{Result}
 
 -- the number and the first value, from what is told
 pub told_number : (numbers : List ℕ) → get_or (padded numbers) 0 0 ≡ get_or numbers 0 0
@@ -31,12 +30,6 @@ told_value (n ∷ v ∷ vs) = refl
 pub told_of : {w : Writing} {before after : List ℕ} {v : Result Verdict Refusal} {number : ℕ} {values : List ℕ}
     → Wrote w before after v → number ∷ values ≡ padded (paper v) → Told w before after number values
 told_of wrote e = record { numbers = e ∙ ap padded wrote.numbers; bytes = wrote.bytes }
-
--- the bytes written, handed on as the verdict that they are
-pub handed_on : (w : Result ℕ Refusal) (v : Result Verdict Refusal) → MatchResult w (λ n. IsOkAnd v (λ x. x ≡ Reply n)) (λ e. v ≡ Err e) → v ≡ as_verdict w
-handed_on (Ok n) (Ok x) m = ap Ok m
-handed_on (Ok n) (Err e) m = absurd m
-handed_on (Err e) v m = m
 
 -- the id afterwards goes by the id before
 id_after : (b d : Bool) (g h : Guest) → h.id ≡ g.id → (cond b g (cond d g (spent g))).id ≡ (cond b h (cond d h (spent h))).id
