@@ -1,33 +1,22 @@
--- Text added piece by piece is one text: what `Added` says of two calls, one behind the other, and of hexadecimal digits.
+-- Text added piece by piece: a piece behind the bytes that were written, the digits of one byte more, one number more.
 use Prim.Native.Nat.{ℕ, ◌+◌, ◌*◌, ◌/◌, ◌%◌, ◌≤◌, ◌<◌}
-use mathlib.Core.Path.{◌≡◌, refl, ap, sym, ◌∙◌}
+use mathlib.Core.Path.{◌≡◌, refl, ap, ◌∙◌}
 use mathlib.Core.List.{List, [], ◌∷◌, ◌++◌, append-nil, append_assoc}
-use native.Mathlib.Nat.{add-zero}
 use native.Mathlib.Numerals.{add-one}
 use native.Mathlib.Omega.{arith}
-use lib.ListN.{length, take, get_or, length-append, take-append-drop}
-use lib.Seq.{take-suc}
-use Rattle.base.specs.Buffer.{put}
-use Rattle.base.proofs.Lists.{put-put}
-use Rattle.gwone.specs.Text.{Added, ascii, decimal, glyph, hex}
+use lib.ListN.{length, take, get_or, length-append, length-take}
+use lib.Seq.{take-suc, take-append_seam}
+use Rattle.base.specs.Buffer.{put, put_if_fits}
+use Rattle.base.proofs.Lists.{fits}
+use Rattle.gwone.specs.Text.{ascii, decimal, glyph, hex}
 use Rattle.gwone.specs.Printed.{spaced}
 
--- no piece at all
-pub nothing : (at : ℕ) (x : List ℕ) → Added at [] x x at
+-- a piece put behind the first `at` bytes
+pub put_behind : (at : ℕ) (s b : List ℕ) → at + length s ≤ length b → take (at + length s) (put_if_fits at s b) ≡ take at b ++ s
 unfolding put
-nothing at x = record { ends = sym (add-zero at); bytes = simp (append-nil, add-zero) (sym (take-append-drop at x)) }
-
--- a piece right behind another
-pub both : {at m r : ℕ} {s t x y z : List ℕ} → r ≤ length x → Added at s x y m → Added m t y z r → Added at (s ++ t) x z r
-both {at} {s = s} {t} {x} fits first second =
-    record {
-      ends = simp length-append (omega (arith, first.ends, second.ends));
-      bytes = second.bytes ∙ rw (first.ends, first.bytes) (put-put at s t x (omega (arith, first.ends, second.ends)));
-    }
-
--- the same piece in other words
-pub reworded : {at r : ℕ} {s t x y : List ℕ} → s ≡ t → Added at s x y r → Added at t x y r
-reworded e added = rw e at added
+put_behind at s b h =
+    let front : length (take at b ++ s) ≡ at + length s = simp (length-append, length-take) (omega arith) in
+    rw (fits at s b h, ← front) (take-append_seam (take at b ++ s) _)
 
 pub hex_append : (a b : List ℕ) → hex (a ++ b) ≡ hex a ++ hex b
 unfolding hex

@@ -1,8 +1,7 @@
--- Text as bytes: ASCII, a number in decimal, bytes in hexadecimal; and a buffer to which text is added.
-use Rattle.std.specs.Prelude.{ℕ, zero, suc, ◌+◌, ◌/◌, ◌%◌, ◌≡◌, ◌≤◌, List, [], ◌∷◌, ◌++◌, ltb, length, take, cond}
+-- Text as bytes: ASCII, a number in decimal, bytes in hexadecimal.
+use Rattle.std.specs.Prelude.{ℕ, zero, suc, ◌+◌, ◌/◌, ◌%◌, List, [], ◌∷◌, ◌++◌, ltb, cond}
 use Prim.Native.Char.{code}
 use Prim.Native.String.{String, [] as empty, ◌∷◌ as ◌then◌}
-use Rattle.base.specs.Buffer.{put}
 
 abbrev pub ascii : String → List ℕ
 ascii empty = []
@@ -24,12 +23,3 @@ decimal n = decimal_within n n
 unfoldable pub hex : (bytes : List ℕ) → List ℕ
 hex [] = []
 hex (byte ∷ bytes) = glyph (byte / 16) ∷ glyph (byte % 16) ∷ hex bytes
-
--- `&s[..n]` is in bounds and has n bytes
-abbrev pub IsPrefixLen : ℕ → List ℕ → Type 0
-IsPrefixLen n s = (n ≤ length s) × (n ≡ length (take n s))
-
--- The promise of a function that adds text to a buffer: `piece` stands there from `at` to `end`, and all else is as it was.
-pub record Added (at : ℕ) (piece before after : List ℕ) (end : ℕ) : Type 0 where
-  pub ends : end ≡ at + length piece
-  pub bytes : after ≡ put at piece before

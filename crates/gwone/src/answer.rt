@@ -4,10 +4,10 @@ ghost use Rattle.std.specs.Prelude.{◌≡◌, ◌≤◌, [], ◌∷◌, ◌++�
 ghost use Rattle.record.specs.Answer.{paper};
 ghost use Rattle.record.specs.Guest.{fresh};
 ghost use Rattle.record.specs.Network.{document01};
-ghost use Rattle.gwone.specs.Text.{Added, IsPrefixLen, ascii, hex};
+ghost use Rattle.gwone.specs.Text.{ascii, hex};
 ghost use Rattle.gwone.specs.Printed.{spaced, answer_text, guest_mac_lem, printed};
 
-use crate::text::{add, add_hex, add_number};
+use crate::text::Text;
 use making::make;
 use record::{Guest, Refusal, Verdict};
 
@@ -37,65 +37,61 @@ fn new_guest() -> Guest
     make(GUEST_MAC, GATEWAY, GUEST, MASK, Some(LEASE)).unwrap()
 }
 
-// All that is printed for `input`, at the front of `text`, and where it ends.
-pub fn add_printed(input: &[u8], text: &mut [u8]) -> usize
-    requires { 4224 ≤ length text.old }
-    ensures added { Added 0 (printed input.now) text.old text.new result }
-    ensures prefix_len { IsPrefixLen result text.new }
+// All that is printed for `input`.
+pub fn printed(input: &[u8]) -> Text
+    ensures { result ≡ printed input.now }
 {
     if FRAME_LIMIT < input.len() {
-        return add(text, 0, b"input over 2048\n");
+        return line(b"input over 2048", &[]);
     }
     let mut reply = [0; 2048];
     let answer = slirp::handle(new_guest(), input, &mut reply);
-    add_answer(text, answer.verdict, &reply)
+    answered(answer.verdict, &reply)
 }
 
 // The word of the verdict and its numbers; a reply stands at the front of `buffer`.
 #[tactic(auto, unfolding(record::specs::Answer::paper, crate::specs::Printed::line, crate::specs::Printed::answer_text))]
-fn add_answer(text: &mut [u8], verdict: Result<Verdict, Refusal>, buffer: &[u8]) -> usize
-    requires in_bounds { 4224 ≤ length text.old }
-    requires buffer_len_bound { length buffer.now ≤ 2048 }
-    ensures added { Added 0 (answer_text (paper verdict) buffer.now) text.old text.new result }
-    ensures upper_bound { result ≤ 4224 }
+fn answered(verdict: Result<Verdict, Refusal>, buffer: &[u8]) -> Text
+    requires { length buffer.now ≤ 2048 }
+    ensures { result ≡ answer_text (paper verdict) buffer.now }
 {
     match verdict {
-        Ok(Verdict::Drop) => add(text, 0, b"drop\n"),
-        Ok(Verdict::Reply(n)) => add_reply(text, n, front(buffer, n)),
-        Ok(Verdict::Dns { start, len }) => add_line(text, b"dns", &[start, len]),
-        Ok(Verdict::Relay { start, len }) => add_line(text, b"relay", &[start, len]),
-        Ok(Verdict::Tcp(len)) => add_line(text, b"tcp", &[len]),
-        Err(Refusal::NoRoom(needed)) => add_line(text, b"refused", &[NO_ROOM, needed]),
-        Err(Refusal::TooLong(len)) => add_line(text, b"refused", &[TOO_LONG, len]),
-        Err(Refusal::CutType(place)) => add_line(text, b"refused", &[CUT_TYPE, place]),
+        Ok(Verdict::Drop) => line(b"drop", &[]),
+        Ok(Verdict::Reply(n)) => reply(n, front(buffer, n)),
+        Ok(Verdict::Dns { start, len }) => line(b"dns", &[start, len]),
+        Ok(Verdict::Relay { start, len }) => line(b"relay", &[start, len]),
+        Ok(Verdict::Tcp(len)) => line(b"tcp", &[len]),
+        Err(Refusal::NoRoom(needed)) => line(b"refused", &[NO_ROOM, needed]),
+        Err(Refusal::TooLong(len)) => line(b"refused", &[TOO_LONG, len]),
+        Err(Refusal::CutType(place)) => line(b"refused", &[CUT_TYPE, place]),
     }
 }
 
-// A line of a word and at most two numbers.
-fn add_line(text: &mut [u8], word: &[u8], numbers: &[usize]) -> usize
-    requires in_bounds { 64 ≤ length text.old }
-    requires word_len_bound { length word.now ≤ 7 }
+// A line of a word, or a few, and at most two numbers.
+fn line(word: &[u8], numbers: &[usize]) -> Text
+    requires word_len_bound { length word.now ≤ 15 }
     requires numbers_len_bound { length numbers.now ≤ 2 }
-    ensures added { Added 0 (word.now ++ spaced numbers.now ++ ascii "\n") text.old text.new result }
-    ensures upper_bound { result ≤ 64 }
+    ensures line { result ≡ word.now ++ spaced numbers.now ++ ascii "\n" }
+    ensures upper_bound { length result ≤ 64 }
 {
-    let mut at = add(text, 0, word);
+    let mut text = Text::new();
+    text.push(word);
     for number in numbers {
-        at = add_number(text, at, *number);
+        text.push_number(*number);
     }
-    add(text, at, b"\n")
+    text.push(b"\n");
+    text
 }
 
 // The line of a reply and one of its bytes in hex.
-fn add_reply(text: &mut [u8], n: usize, bytes: &[u8]) -> usize
-    requires in_bounds { 4224 ≤ length text.old }
-    requires bytes_len_bound { length bytes.now ≤ 2048 }
-    ensures added { Added 0 (ascii "reply" ++ spaced (n ∷ []) ++ ascii "\n" ++ hex bytes.now ++ ascii "\n") text.old text.new result }
-    ensures upper_bound { result ≤ 4224 }
+fn reply(n: usize, bytes: &[u8]) -> Text
+    requires { length bytes.now ≤ 2048 }
+    ensures { result ≡ ascii "reply" ++ spaced (n ∷ []) ++ ascii "\n" ++ hex bytes.now ++ ascii "\n" }
 {
-    let at = add_line(text, b"reply", &[n]);
-    let at = add_hex(text, at, bytes);
-    add(text, at, b"\n")
+    let mut text = line(b"reply", &[n]);
+    text.push_hex(bytes);
+    text.push(b"\n");
+    text
 }
 
 // The first `n` bytes, or all where there are fewer.

@@ -1,25 +1,73 @@
-// Text in a buffer: each function adds a piece from `at` on and answers where it ends.
-ghost use Rattle.std.specs.Prelude.{◌≡◌, [], ◌∷◌, ◌++◌, ◌+◌, ◌*◌, ◌≤◌, ◌<◌, drop, length};
-ghost use Rattle.gwone.specs.Text.{Added, ascii, decimal, glyph as glyph_of, hex};
+// Text in a fixed buffer: each piece is added at the end, where the caller shows that there is room.
+ghost use Rattle.std.specs.Prelude.{◌≡◌, ℕ, List, [], ◌∷◌, ◌++◌, ◌+◌, ◌*◌, ◌≤◌, ◌<◌, take, drop, length};
+ghost use Rattle.gwone.specs.Text.{ascii, decimal, glyph as glyph_of, hex};
+ghost use Rattle.gwone.specs.declared.text.TheConstants.{ROOM};
 
-pub fn add(text: &mut [u8], at: usize, piece: &[u8]) -> usize
-    requires { at + length piece.now ≤ length text.old }
-    ensures { Added at piece.now text.old text.new result }
-{
-    base::put(text, at, piece);
-    at + piece.len()
+use std::marker::Model;
+
+// For a line of 64 bytes, and one of 2,048 bytes in hex.
+const ROOM: usize = 4224;
+
+#[derive(Drop)]
+pub struct Text {
+    bytes: [u8; ROOM],
+    len: usize,
 }
 
-// A space and the number in decimal.
-pub fn add_number(text: &mut [u8], at: usize, number: usize) -> usize
-    requires { at + 21 ≤ length text.old }
-    ensures added { Added at (ascii " " ++ decimal number) text.old text.new result }
-    ensures upper_bound { result ≤ at + 21 }
-{
-    let mut digits = [0u8; 20];
-    let start = lay_decimal(number as u64, &mut digits);
-    let at = add(text, at, b" ");
-    add(text, at, &digits[start..])
+// Clauses see the bytes that were written.
+impl Model for Text {
+    ghost Value = { List ℕ };
+
+    ghost view = { λ t. take t.len t.bytes };
+
+    ghost invariant = { λ t. t.len ≤ ROOM };
+}
+
+impl Text {
+    pub fn new() -> Self
+        ensures { result ≡ [] }
+    {
+        Text {
+            bytes: [0; ROOM],
+            len: 0,
+        }
+    }
+
+    pub fn as_bytes(&self) -> &[u8]
+        ensures { result.now ≡ self.now }
+    {
+        &self.bytes[..self.len]
+    }
+
+    pub fn push(&mut self, piece: &[u8])
+        requires { length self.old + length piece.now ≤ ROOM }
+        ensures { self.new ≡ self.old ++ piece.now }
+    {
+        base::put(&mut self.bytes, self.len, piece);
+        self.len += piece.len();
+    }
+
+    // A space and the number in decimal.
+    pub fn push_number(&mut self, number: usize)
+        requires { length self.old + 21 ≤ ROOM }
+        ensures number { self.new ≡ self.old ++ ascii " " ++ decimal number }
+        ensures upper_bound { length self.new ≤ length self.old + 21 }
+    {
+        let mut digits = [0u8; 20];
+        let start = lay_decimal(number as u64, &mut digits);
+        self.push(b" ");
+        self.push(&digits[start..]);
+    }
+
+    // Two digits for each byte.
+    pub fn push_hex(&mut self, bytes: &[u8])
+        requires { length self.old + 2 * length bytes.now ≤ ROOM }
+        ensures { self.new ≡ self.old ++ hex bytes.now }
+    {
+        for byte in bytes {
+            self.push(&[glyph(*byte / 16), glyph(*byte % 16)]);
+        }
+    }
 }
 
 // The number in decimal, at the end of `digits`, and where it starts there. (The digits come from the last one on, as
@@ -38,25 +86,6 @@ fn lay_decimal(number: u64, digits: &mut [u8; 20]) -> usize
     start -= 1;
     digits[start] = glyph(rest as u8);
     start
-}
-
-// Two digits for each byte.
-pub fn add_hex(text: &mut [u8], at: usize, bytes: &[u8]) -> usize
-    requires { at + 2 * length bytes.now ≤ length text.old }
-    ensures { Added at (hex bytes.now) text.old text.new result }
-{
-    let mut end = at;
-    for byte in bytes {
-        end = add_byte(text, end, *byte);
-    }
-    end
-}
-
-fn add_byte(text: &mut [u8], at: usize, byte: u8) -> usize
-    requires { at + 2 ≤ length text.old }
-    ensures { Added at (hex (byte ∷ [])) text.old text.new result }
-{
-    add(text, at, &[glyph(byte / 16), glyph(byte % 16)])
 }
 
 // The ASCII code of a digit.
