@@ -46,9 +46,9 @@ pub fn is_expected(
     out: &[u8],
 ) -> bool {
     match verdict {
-        Ok(Verdict::Reply(n)) => (number == 1) & (n == value) & is_frame(head, payload, n, out),
-        Err(Refusal::NoRoom(needed)) => (number == 5) & (needed == value) & vectors::is_marked(out),
-        Err(Refusal::TooLong(len)) => (number == 6) & (len == value) & vectors::is_marked(out),
+        Ok(Verdict::Reply(n)) => number == 1 && n == value && is_frame(head, payload, n, out),
+        Err(Refusal::NoRoom(needed)) => number == 5 && needed == value && vectors::is_marked(out),
+        Err(Refusal::TooLong(len)) => number == 6 && len == value && vectors::is_marked(out),
         _ => false,
     }
 }
@@ -59,6 +59,6 @@ fn is_frame(head: &[u8], payload: &[u8], n: usize, out: &[u8]) -> bool {
         return false;
     }
     (part(out, 0, start) == head)
-        & (part(out, start, n - start) == payload)
-        & vectors::is_marked(&out[n..])
+        && part(out, start, n - start) == payload
+        && vectors::is_marked(&out[n..])
 }

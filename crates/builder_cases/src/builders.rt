@@ -44,7 +44,7 @@ const XID: u32 = 0x0708090a;
 
 // Built from a payload beside the buffer, and from one that lies in the buffer.
 pub fn builds_ip_frame(line: &[u8]) -> bool {
-    builds(line, Builder::IpFrame) & builds(line, Builder::IpFrameInPlace)
+    builds(line, Builder::IpFrame) && builds(line, Builder::IpFrameInPlace)
 }
 
 pub fn builds_udp_payload(line: &[u8]) -> bool {
@@ -62,15 +62,15 @@ fn builds(line: &[u8], builder: Builder) -> bool {
     let mut out_space: [u8; 70400] = vectors::filled(vectors::MARK);
     let payload = vectors::front(&mut payload_space, e.len);
     let out = vectors::front(&mut out_space, e.room);
-    if (payload.len() < e.len) | (out.len() < e.room) {
+    if payload.len() < e.len || out.len() < e.room {
         return false;
     }
     vectors::lay_payload(e.written, e.seed, payload);
     let answer = builder.call(line, payload, out);
-    let spent = (e.number == 1) & (builder != Builder::UdpPayload);
+    let spent = e.number == 1 && builder != Builder::UdpPayload;
     let id = u16be(line, 1).wrapping_add(u16::from(spent));
     (answer.guest == known(id))
-        & is_expected(e.number, e.value, e.head, payload, answer.verdict, out)
+        && is_expected(e.number, e.value, e.head, payload, answer.verdict, out)
 }
 
 fn ip_frame(line: &[u8], payload: &[u8], out: &mut [u8]) -> Answer {

@@ -33,8 +33,8 @@ pub fn walks(line: &[u8]) -> bool {
 // A line has 0 for a message without a type.
 fn is_found(found: Result<Option<u8>, CutAt>, number: u8, value: usize) -> bool {
     match found {
-        Ok(kind) => (number == 0) & (usize::from(kind.unwrap_or(0)) == value),
-        Err(CutAt(place)) => (number == CUT) & (place == value),
+        Ok(kind) => number == 0 && usize::from(kind.unwrap_or(0)) == value,
+        Err(CutAt(place)) => number == CUT && place == value,
     }
 }
 

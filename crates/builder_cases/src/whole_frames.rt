@@ -1,13 +1,7 @@
 // A whole frame that another made: its checksums are right.
 use vectors::part;
 use wire::bytes::u16be;
-use wire::ipv4::{ip_dst, ip_hlen, ip_proto, ip_src};
-
-const ICMP: u8 = 1;
-
-const TCP: u8 = 6;
-
-const UDP: u8 = 17;
+use wire::ipv4::{ICMP, TCP, UDP, ip_dst, ip_hlen, ip_proto, ip_src};
 
 // The IPv4 header sums right, and so does what it carries: with its pseudo-header for TCP, and for
 // UDP where the checksum is not 0.

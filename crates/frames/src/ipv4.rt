@@ -27,8 +27,8 @@ pub struct Packet {
     pub dst_ip: [u8; 4],
 }
 
-// A frame around `payload`, to `dst_mac` from the gateway. (README names this function and the next with these parameters,
-// so they stay one by one; what is no public promise takes a `Packet`.)
+// A frame around `payload`, to `dst_mac` from the gateway. (README has this call with these
+// parameters, so they stay one by one here and in the next; what is no public promise takes a `Packet`.)
 pub fn make_ip_frame(
     guest: Guest,
     dst_mac: [u8; 6],

@@ -5,6 +5,7 @@ ghost use Rattle.gateway_cases.specs.Calls.{Called, Judged, fields_of, is_call};
 
 use crate::pieces;
 use record::{Guest, Network, Refusal, Verdict};
+use verdict_numbers::numbered;
 use wire::bytes::{byte_at, bytes_at, u16be, u32be};
 
 // A call on document 01's network with id and xid before it, one that goes on with the record that the
@@ -64,7 +65,7 @@ struct Checked {
 pub fn is_call(kind: u8) -> bool
     ensures { result ≡ is_call kind }
 {
-    (kind == WITH_RECORD) | (kind == GOES_ON) | (kind == ON_NETWORK)
+    matches!(kind, WITH_RECORD | GOES_ON | ON_NETWORK)
 }
 
 pub fn called(line: &[u8], last: Guest) -> Outcome
@@ -140,7 +141,7 @@ fn judged(fields: &[u8], before: Guest) -> Outcome
 // Lays out the frame.
 fn call(fields: &[u8], before: Guest) -> Option<Checked> {
     let size = u16be(fields, FRAME_SIZE_AT) as usize;
-    let pieces = vectors::rest(fields, FRAME_AT).get(..size)?;
+    let pieces = fields.get(FRAME_AT..)?.get(..size)?;
     let mut space: [u8; 70400] = vectors::filled(0);
     let len = pieces::lay(pieces, b"", &mut space)?;
     call_with(fields, before, vectors::part(&space, 0, len))
@@ -156,7 +157,7 @@ fn call_with(fields: &[u8], before: Guest, frame: &[u8]) -> Option<Checked> {
     let answer = slirp::handle(before, frame, out);
     Some(Checked {
         agrees: (answer.guest == record_after(fields, before.network))
-            & is_answer(fields, answer.verdict, frame, out),
+            && is_answer(fields, answer.verdict, frame, out),
         guest: answer.guest,
     })
 }
@@ -178,8 +179,8 @@ fn is_answer(fields: &[u8], verdict: Result<Verdict, Refusal>, frame: &[u8], out
     match pieces::lay(vectors::rest(fields, FRAME_AT + size), frame, &mut space) {
         Some(len) => {
             (len == reply_length(fields))
-                & (paper(verdict) == paper_at(fields))
-                & holds(out, vectors::part(&space, 0, len))
+                && paper(verdict) == paper_at(fields)
+                && holds(out, vectors::part(&space, 0, len))
         }
         None => false,
     }
@@ -188,7 +189,7 @@ fn is_answer(fields: &[u8], verdict: Result<Verdict, Refusal>, frame: &[u8], out
 // The buffer starts with the image, and has its marks behind it.
 fn holds(out: &[u8], image: &[u8]) -> bool {
     (vectors::part(out, 0, image.len()) == image)
-        & vectors::is_marked(vectors::rest(out, image.len()))
+        && vectors::is_marked(vectors::rest(out, image.len()))
 }
 
 // Only a reply has bytes, and as many as it says.
@@ -200,22 +201,15 @@ fn reply_length(fields: &[u8]) -> usize {
 }
 
 // An answer as document 01 writes it: its number, the value with it, and the length of data.
-fn paper(verdict: Result<Verdict, Refusal>) -> (u8, usize, usize) {
-    match verdict {
-        Ok(Verdict::Drop) => (0, 0, 0),
-        Ok(Verdict::Reply(n)) => (REPLY, n, 0),
-        Ok(Verdict::Dns { start, len }) => (2, start, len),
-        Ok(Verdict::Relay { start, len }) => (3, start, len),
-        Ok(Verdict::Tcp(len)) => (4, len, 0),
-        Err(Refusal::NoRoom(needed)) => (5, needed, 0),
-        Err(Refusal::TooLong(len)) => (6, len, 0),
-        Err(Refusal::CutType(place)) => (7, place, 0),
-    }
+fn paper(verdict: Result<Verdict, Refusal>) -> (u32, usize, usize) {
+    let mut values = [0; 2];
+    let number = numbered(verdict, &mut values);
+    (number, values[0], values[1])
 }
 
-fn paper_at(fields: &[u8]) -> (u8, usize, usize) {
+fn paper_at(fields: &[u8]) -> (u32, usize, usize) {
     (
-        byte_at(fields, VERDICT_AT),
+        u32::from(byte_at(fields, VERDICT_AT)),
         u32be(fields, VALUE_AT) as usize,
         u16be(fields, DATA_LENGTH_AT) as usize,
     )

@@ -43,7 +43,7 @@ pub fn made(line: &[u8]) -> Option<MakingOutcome>
 {
     let answer = byte_at(line, ANSWER_AT);
     let made = answer == MADE;
-    if (line.len() != LINE_LENGTH) | (!made & (answer != BAD_RECORD)) {
+    if line.len() != LINE_LENGTH || (!made && answer != BAD_RECORD) {
         return None;
     }
     Some(MakingOutcome {
@@ -61,9 +61,9 @@ fn makes(line: &[u8]) -> bool {
         bytes_at(line, MASK_AT),
         lease(line),
     ) {
-        Ok(guest) => (number == MADE) & (guest == new_record(line)),
+        Ok(guest) => number == MADE && guest == new_record(line),
         // There is no record then, and the line says 0 of its lease.
-        Err(BadRecord) => (number == BAD_RECORD) & (u32be(line, LEASE_OF_RECORD_AT) == 0),
+        Err(BadRecord) => number == BAD_RECORD && u32be(line, LEASE_OF_RECORD_AT) == 0,
     }
 }
 

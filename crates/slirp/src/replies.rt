@@ -31,10 +31,8 @@ pub fn handle_arp(guest: Guest, frame: &[u8], reply: &mut [u8]) -> Answer
     if reply.len() < arp_reply::FRAME {
         return guest.answer(Err(Refusal::NoRoom(arp_reply::FRAME)));
     }
-    let network = guest.network;
-    let gateway = network.gateway;
     put_arp_reply(
-        gateway,
+        guest.network.gateway,
         bytes_at(frame, SENDER_MAC),
         bytes_at(frame, SENDER_IP),
         reply,
@@ -57,12 +55,10 @@ pub fn handle_icmp(guest: Guest, frame: &[u8], start: usize, reply: &mut [u8]) -
     if reply.len() < need {
         return guest.answer(Err(Refusal::NoRoom(need)));
     }
-    let network = guest.network;
-    let gateway = network.gateway;
     put_echo_reply(
         eth_src(frame),
         guest.id,
-        gateway,
+        guest.network.gateway,
         ip_src(frame),
         request,
         reply,
@@ -80,9 +76,15 @@ pub fn handle_dhcp(guest: Guest, frame: &[u8], xid: u32, kind: u8, reply: &mut [
     if reply.len() < dhcp_reply::FRAME {
         return guest.answer(Err(Refusal::NoRoom(dhcp_reply::FRAME)));
     }
-    let network = guest.network;
-    let mac = guest.mac;
-    put_dhcp_reply(network, mac, guest.id, eth_src(frame), xid, kind, reply);
+    put_dhcp_reply(
+        guest.network,
+        guest.mac,
+        guest.id,
+        eth_src(frame),
+        xid,
+        kind,
+        reply,
+    );
     guest
         .note(xid)
         .spend()

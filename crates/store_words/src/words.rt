@@ -17,6 +17,7 @@ const COMPLETE: u32 = 3;
 pub fn state_of(words: [u32; 6]) -> State
     ensures { result ≡ state_of words }
 {
+    // What C put above a number's own bits counts for nothing, so the low ones are cut out by `%`.
     let datagram = Datagram {
         source: words[1],
         target: words[2],
@@ -42,7 +43,6 @@ pub fn state_of(words: [u32; 6]) -> State
 }
 
 // Read again, the words are the state.
-
 pub fn words_of(state: State) -> [u32; 6]
     ensures { (result ≡ words_of state) × (state_of result ≡ state) }
 {

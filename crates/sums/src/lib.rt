@@ -30,7 +30,7 @@ pub fn sum(start: u16, input: &[u8]) -> u16
 {
     let mut so_far = u32::from(exchanged(start));
     let mut rest = input;
-    // `for piece in input.chunks(PIECE)` was tried: it takes 13 instructions more at every length, 15 of 100 at 64 bytes.
+    // `for piece in input.chunks(PIECE)` was tried: 10 to 14 instructions more at every length, 112 for 101 at 64 bytes.
     while PIECE < rest.len() {
         let (piece, behind) = rest.split_at(PIECE);
         so_far = folded_to_32(total_behind(so_far, piece));

@@ -50,8 +50,8 @@ const WINDOW: u16 = 65535;
 // A largest segment of 1,460 bytes, a no-operation, a window shift of 7.
 const SYN_OPTIONS: [u8; 8] = [0x02, 0x04, 0x05, 0xb4, 0x01, 0x03, 0x03, 0x07];
 
-// A frame around a segment with `data`. Where the SYN flag is set, its options stand before the data. (README names it with
-// these parameters, so they stay one by one.)
+// A frame around a segment with `data`. Where the SYN flag is set, its options stand before the data. (A struct of
+// the six would ask more of callers, who have it with these parameters.)
 pub fn make_tcp_frame(
     guest: Guest,
     ends: Endpoints,

@@ -6,6 +6,7 @@ use std::io;
 
 const ROWS: usize = 32;
 
+// (Two lists, as `empty` and `counted_in` in specs/ have them.)
 #[derive(Clone, Copy)]
 pub struct Tally {
     pub right: [u64; 32],

@@ -9,7 +9,8 @@ pub fn byte_at(buf: &[u8], at: usize) -> u8
     buf.get(at).copied().unwrap_or(0)
 }
 
-// As many bytes as the caller's array has: `let mac: [u8; 6] = bytes_at(frame, 6);`.
+// As many bytes as the caller's array has: `let mac: [u8; 6] = bytes_at(frame, 6);`. (Each turn reads at a place, so an
+// iterator would have to count it beside.)
 pub fn bytes_at<const N: usize>(buf: &[u8], at: usize) -> [u8; N]
     ensures { result ≡ Bytes·bytes_at buf.now at N }
 {
