@@ -1,4 +1,5 @@
-// The reply to an ARP request: the gateway's MAC for its address. No public function relies on checks by its caller.
+// The reply to an ARP request: the gateway's MAC for its address. No public function relies on checks by its
+// caller.
 #![tactic(auto)]
 
 ghost use Rattle.std.specs.Prelude.{◌≡◌};

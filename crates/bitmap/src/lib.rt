@@ -34,7 +34,8 @@ pub fn count(bits: &[u64], first: usize, stop: usize) -> usize
     found
 }
 
-// Marks the blocks from `first` up to `stop`; where the words do not reach them all, none. (A `while` as in `count`.)
+// Marks the blocks from `first` up to `stop`; where the words do not reach them all, none. (A `while` as in
+// `count`.)
 pub fn mark(bits: &mut [u64], first: usize, stop: usize)
     ensures { Marked first stop bits.old bits.new }
 {

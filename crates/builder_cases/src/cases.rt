@@ -14,8 +14,8 @@ pub struct Case {
     pub agrees: bool,
 }
 
-// The kinds. (As numbers: a line has its kind as a byte, and what counts the cases has a row at that number, so that
-// an enum would need a conversion to each.)
+// The kinds. (As numbers: a line has its kind as a byte, and what counts the cases has a row at that number,
+// so that an enum would need a conversion to each.)
 const CHECKSUM: u8 = 1;
 
 const TWO_PIECES: u8 = 2;

@@ -23,6 +23,7 @@ pub fn sums_right(frame: &[u8]) -> bool {
     }
 }
 
+// (`packets_strict` has such a sum too, for packets that are right in all else. This one judges sums alone.)
 fn with_pseudo_header(frame: &[u8], payload: &[u8]) -> u16 {
     let len = (payload.len() % 65536) as u16;
     let pseudo = wire::udp::pseudo_header(ip_src(frame), ip_dst(frame), ip_proto(frame), len);

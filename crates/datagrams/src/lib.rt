@@ -1,4 +1,5 @@
-// UDP datagrams, into a lent buffer, with the checksum of RFC 768. No public function relies on checks by its caller.
+// UDP datagrams, into a lent buffer, with the checksum of RFC 768. No public function relies on checks by its
+// caller.
 #![tactic(auto)]
 
 ghost use Rattle.std.specs.Prelude.{◌≡◌, length, ◌+◌, ◌-◌};
@@ -23,8 +24,8 @@ pub struct UdpDatagram {
     pub len: u16,
 }
 
-// A datagram around `data`. Its checksum covers the addresses of the packet that it is to lie in. (README names it with
-// these parameters, so they stay one by one.)
+// A datagram around `data`. Its checksum covers the addresses of the packet that it is to lie in. (README
+// names it with these parameters, so they stay one by one.)
 pub fn make_udp_payload(
     src_ip: [u8; 4],
     src_port: u16,
@@ -53,8 +54,8 @@ pub fn make_udp_payload(
 }
 
 impl UdpDatagram {
-    // The sum of what stands before its data: the pseudo-header, and the header with its checksum 0. It goes on over the
-    // data, wherever that lies, so that nothing is copied.
+    // The sum of what stands before its data: the pseudo-header, and the header with its checksum 0. It goes
+    // on over the data, wherever that lies, so that nothing is copied.
     pub fn front_sum(self) -> u16
         ensures { result ≡ fold
             (total (pseudo_header_lem self.src_ip self.dst_ip 17 self.len)

@@ -62,6 +62,7 @@ pub fn reply_type(received: u8) -> Option<u8>
 }
 
 // A reply of type `kind` at the front of `out`. `mac` is the record's, not the request's.
+// (README has this call with these parameters; a struct of the four would ask more of callers.)
 pub fn build_reply(
     net: Network,
     mac: [u8; 6],
@@ -92,7 +93,8 @@ fn write_reply_of(net: Network, mac: [u8; 6], xid: u32, kind: u8, reply: &mut [u
     write_reply(fields, kind, option_values(net), reply);
 }
 
-// The rows: server identifier, lease time, subnet mask, router, name server. (Document 01 has them as rows by value.)
+// The rows: server identifier, lease time, subnet mask, router, name server. (Document 01 has them as rows by
+// value.)
 fn option_values(net: Network) -> [[u8; 4]; 5]
     ensures { result ≡ Pieces·values net }
 {

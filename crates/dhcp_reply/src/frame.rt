@@ -11,7 +11,8 @@ use record::Network;
 use sums::sum;
 use wire::{ethernet, ipv4, udp};
 
-// Document 02, 2/13: from the server's port to the client's. The Rust has them the other way round (docs/DIFFERENCES.md).
+// Document 02, 2/13: from the server's port to the client's. The Rust has them the other way round
+// (docs/DIFFERENCES.md).
 const REPLY_SOURCE: u16 = udp::DHCP_SERVER;
 
 const REPLY_TARGET: u16 = udp::DHCP_CLIENT;
@@ -22,8 +23,8 @@ const MESSAGE_AT: usize = DATAGRAM_AT + udp::HEADER;
 
 pub const FRAME: usize = MESSAGE_AT + REPLY_LENGTH;
 
-// A reply of type `kind` to the message whose xid is `xid`, in its frame to `dst_mac`, at the front of `out`; where it does
-// not fit, nothing is written. `mac` is the record's, not the request's.
+// A reply of type `kind` to the message whose xid is `xid`, in its frame to `dst_mac`, at the front of `out`;
+// where it does not fit, nothing is written. `mac` is the record's, not the request's.
 pub fn put_dhcp_reply(
     net: Network,
     mac: [u8; 6],

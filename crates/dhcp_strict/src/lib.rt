@@ -62,9 +62,9 @@ fn has_header(message: &[u8]) -> bool
     u32be(message, COOKIE) == MAGIC_COOKIE
 }
 
-// Whether a list runs from `at` to the end of the frame, in which an option 53 is the only one: `seen` is what one
-// before it said, and then what one in it says. Tried and slower: an Option handed back by value keeps the calls
-// from being compiled into a loop (1,229 items in 9.2 µs, and here in 0.4).
+// Whether a list runs from `at` to the end of the frame, in which an option 53 is the only one: `seen` is
+// what one before it said, and then what one in it says. Tried and slower: an Option handed back by value
+// keeps the calls from being compiled into a loop (1,229 items in 9.2 µs, and here in 0.4).
 #[cycle(read_item_read_list)]
 fn read_list(frame: &[u8], at: usize, seen: &mut Option<u8>) -> bool
     requires { length frame.now ≤ at + 1232 }

@@ -1,5 +1,5 @@
-// The reply to a ping: its frame is written where it goes, with one copy of the request's bytes. No public function relies
-// on checks by its caller.
+// The reply to a ping: its frame is written where it goes, with one copy of the request's bytes. No public
+// function relies on checks by its caller.
 #![tactic(auto)]
 
 ghost use Rattle.std.specs.Prelude.{◌≡◌};
@@ -16,8 +16,8 @@ pub const MESSAGE_AT: usize = ethernet::HEADER + ipv4::HEADER;
 // Type, code and checksum; behind them nothing changes.
 const CHANGED: usize = 4;
 
-// The frame around the echo of `request`, at the front of `out`. Where the request has no checksum or is too long for a
-// packet, or the frame does not fit, nothing is written.
+// The frame around the echo of `request`, at the front of `out`. Where the request has no checksum or is too
+// long for a packet, or the frame does not fit, nothing is written.
 pub fn put_echo_reply(
     dst_mac: [u8; 6],
     id: u16,
@@ -46,8 +46,8 @@ pub fn put_echo_reply(
         dst_ip,
     };
     put_headers(dst_mac, packet, out);
-    // The request's bytes are copied once and summed once: with type, code and checksum 0 the message's sum is that of the
-    // bytes behind them.
+    // The request's bytes are copied once and summed once: with type, code and checksum 0 the message's sum
+    // is that of the bytes behind them.
     let copied = &request[CHANGED..];
     let sum = checksum(copied).to_be_bytes();
     put(out, MESSAGE_AT, &[0, 0, sum[0], sum[1]]);

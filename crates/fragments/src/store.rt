@@ -11,7 +11,8 @@ use bitmap::blocks_of;
 use fragment_packets::{Datagram, Fragment};
 use fragment_rules::{Answer, Refusal, Ruling, State, is_of_size, rule};
 
-// Takes a guest's frame into its store. (One pattern for both matches was tried: the check makes no proof of it.)
+// Takes a guest's frame into its store. (One pattern for both matches was tried: the check makes no proof of
+// it.)
 #[tactic(auto, using(crate::proofs::Ruled::stored, fragment_packets::proofs::Fitting::part_fits, crate::proofs::Storing::of_size), unfolding(crate::specs::Answer::said_for, crate::specs::Outcomes::outcome_of))]
 pub fn take(state: State, frame: &[u8], bytes: &mut [u8], bits: &mut [u64]) -> Taken
     ensures { Takes state frame.now bytes.old bits.old bytes.new bits.new result }
@@ -31,8 +32,9 @@ pub fn take(state: State, frame: &[u8], bytes: &mut [u8], bits: &mut [u64]) -> T
     }
 }
 
-// The fragment's payload is copied to its place, and its blocks are marked. Bytes and bits are lent one by one, as
-// in `take` and `release`, whose signatures stand: for this one call a struct of the two is no plainer.
+// The fragment's payload is copied to its place, and its blocks are marked. Bytes and bits are lent one by
+// one, as in `take` and `release`, whose signatures stand: for this one call a struct of the two is no
+// plainer.
 #[tactic(auto, using(crate::proofs::Storing::copied, crate::proofs::Storing::marked))]
 fn write(
     fragment: Fragment,

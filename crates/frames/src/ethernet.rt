@@ -5,8 +5,8 @@ ghost use Rattle.wire.specs.Rfc894.{ethernet};
 
 use record::GATEWAY_MAC;
 
-// To `mac`, from the gateway's. Byte by byte: pieces put in by copy_from_slice were tried, and left two goals open that a
-// literal does not have.
+// To `mac`, from the gateway's. Byte by byte: pieces put in by copy_from_slice were tried, and left two goals
+// open that a literal does not have.
 pub fn ethernet_header(mac: [u8; 6], kind: u16) -> [u8; 14]
     ensures { result ≡ ethernet mac gateway_mac kind }
 {

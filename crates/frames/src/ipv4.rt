@@ -17,7 +17,8 @@ const HEADER_AT: usize = ethernet::HEADER;
 
 const PAYLOAD_AT: usize = HEADER_AT + HEADER;
 
-// What differs from packet to packet in its header: its length with the header, its id, what it carries, and between whom.
+// What differs from packet to packet in its header: its length with the header, its id, what it carries, and
+// between whom.
 #[derive(Clone, Copy)]
 pub struct Packet {
     pub total: u16,
@@ -95,8 +96,8 @@ fn build_in_place(
     Ok(need)
 }
 
-// The headers of a packet, at the front of `out`; where they do not fit, nothing is written. As a call of its own it cost a
-// ping 17 instructions more, and a TCP frame 40.
+// The headers of a packet, at the front of `out`; where they do not fit, nothing is written. As a call of its
+// own it cost a ping 17 instructions more, and a TCP frame 40.
 #[inline(always)]
 pub fn put_headers(dst_mac: [u8; 6], packet: Packet, out: &mut [u8])
     ensures { out.new ≡ put_if_fits 0 (headers dst_mac packet.total packet.id packet.proto packet.src_ip packet.dst_ip) out.old }

@@ -28,8 +28,8 @@ enum Piece<'a> {
     ByRule { len: usize, seed: u8 },
 }
 
-// Lays the pieces into `out`, one behind the other from its start on, and says how many bytes they are.
-// None where a piece is not there whole, names what is not there, or has no room. (How far a turn goes is told by
+// Lays the pieces into `out`, one behind the other from its start on, and says how many bytes they are. None
+// where a piece is not there whole, names what is not there, or has no room. (How far a turn goes is told by
 // the piece: a `for` would be no plainer.)
 pub fn lay(pieces: &[u8], frame: &[u8], out: &mut [u8]) -> Option<usize> {
     let mut len = 0;

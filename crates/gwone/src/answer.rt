@@ -24,7 +24,7 @@ const LEASE: u32 = 86400;
 
 const FRAME_LIMIT: usize = 2048;
 
-// Document 01's numbers of the refusals.
+// Document 01's numbers of the refusals. (As numbers: they are printed, and `printed` in specs/ has them so.)
 const NO_ROOM: usize = 5;
 
 const TOO_LONG: usize = 6;

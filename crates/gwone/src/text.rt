@@ -70,8 +70,8 @@ impl Text {
     }
 }
 
-// The number in decimal, at the end of `digits`, and where it starts there. (The digits come from the last one on, as
-// many as the number has: a `for` would have to know how many before.)
+// The number in decimal, at the end of `digits`, and where it starts there. (The digits come from the last
+// one on, as many as the number has: a `for` would have to know how many before.)
 fn lay_decimal(number: u64, digits: &mut [u8; 20]) -> usize
     ensures digits { drop result digits.new ≡ decimal number }
     ensures start { result < 20 }

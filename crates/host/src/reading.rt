@@ -59,8 +59,8 @@ pub extern "C" fn yavoledu_read(frame: &[u8], parts: &mut [usize; 13]) -> u32
     }
 }
 
-// Writes the places of four layers and the message type, and hands the kind back. (An array of four layers was tried:
-// the contract then takes its length apart by hand, and is no plainer.)
+// Writes the places of four layers and the message type, and hands the kind back. (An array of four layers
+// was tried: the contract then takes its length apart by hand, and is no plainer.)
 #[tactic(auto, unfolding(crate::specs::Parts::places))]
 fn lay(
     kind: u32,

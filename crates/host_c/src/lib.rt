@@ -1,9 +1,9 @@
-// What a C host links: each exported call of `host` under its own name, with the clauses that it has there. `include/yavoledu.h` has the
-// functions as C sees them. No function has a `requires`.
+// What a C host links: each exported call of `host` under its own name, with the clauses that it has there.
+// `include/yavoledu.h` has the functions as C sees them. No function has a `requires`.
 //
-// So each call is written twice, here and in `host`: C's interface needs both. A static library exports what it
-// defines itself (with `pub use host::yavoledu_send` alone it exports nothing), and no crate, as `host_laws`, can
-// be built on a static library.
+// So each call is written twice, here and in `host`: C's interface needs both. A static library exports what
+// it defines itself (with `pub use host::yavoledu_send` alone it exports nothing), and no crate, as
+// `host_laws`, can be built on a static library.
 #![tactic(auto)]
 
 ghost use Rattle.std.specs.Prelude.{length, ◌≡◌};

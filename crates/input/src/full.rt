@@ -6,10 +6,10 @@ ghost use Rattle.std.specs.Io.KnownBytes.{Consumes, IsAtEnd};
 use std::io;
 use std::io::Read;
 
-// Reads until `out` is full or the input ends, and says how many bytes it put at the start of `out`:
-// fewer than it holds only at the input's end. A read that fails ends it with that error, and what
-// was read before stands at the start of `out`. (A read says how far it came, so a `for`, which takes one step
-// a turn, would be no plainer.)
+// Reads until `out` is full or the input ends, and says how many bytes it put at the start of `out`: fewer
+// than it holds only at the input's end. A read that fails ends it with that error, and what was read before
+// stands at the start of `out`. (A read says how far it came, so a `for`, which takes one step a turn, would
+// be no plainer.)
 pub fn read_full<R: Read>(from: &mut R, out: &mut [u8]) -> io::Result<usize>
     ensures in_bounds { ReadsAtMost result out.new }
     ensures bytes { IfOk result (λ n. Consumes (R.remaining from.old) (R.remaining from.new) (take n out.new)) }

@@ -12,7 +12,8 @@ const DEFAULT_LEASE: u32 = 86400;
 #[derive(Clone, Copy, Debug, PartialEq, Eq)]
 pub struct BadRecord;
 
-// A new guest's record, with id 1 and xid 0, where its network is good. Every MAC and every lease time is taken.
+// A new guest's record, with id 1 and xid 0, where its network is good. Every MAC and every lease time is
+// taken.
 pub fn make(
     mac: [u8; 6],
     gateway: [u8; 4],

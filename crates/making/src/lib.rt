@@ -1,5 +1,5 @@
-// A guest's record is made here, by one call that looks at its network, for Rattle and for C. No function relies on checks
-// by its caller.
+// A guest's record is made here, by one call that looks at its network, for Rattle and for C. No function
+// relies on checks by its caller.
 #![tactic(auto)]
 
 mod call;

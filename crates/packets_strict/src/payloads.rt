@@ -1,5 +1,5 @@
-// What an IPv4 packet carries: ICMP (RFC 792), UDP (RFC 768) and TCP (RFC 9293). The sums of UDP and TCP run over
-// fields of the IPv4 header too, so of those two it is told only behind a right one.
+// What an IPv4 packet carries: ICMP (RFC 792), UDP (RFC 768) and TCP (RFC 9293). The sums of UDP and TCP run
+// over fields of the IPv4 header too, so of those two it is told only behind a right one.
 ghost use Rattle.std.specs.Prelude.{◌≡◌, ◌++◌};
 ghost use Rattle.base.specs.Tells.{Tells};
 ghost use Rattle.grammar.specs.Grammar.{IPv4, ICMP, UDP, TCP, CarriesDHCP, payload, pseudo_header_lem};

@@ -6,8 +6,8 @@ ghost use Rattle.record.specs.Guest.{known, noting, spent};
 use crate::answer::{Answer, Refusal, Verdict};
 use crate::network::Network;
 
-// Its MAC, the id of the next IPv4 frame built for it, its last DHCP xid, and its network, which no call changes. `host`
-// lends it to C, so its layout is C's.
+// Its MAC, the id of the next IPv4 frame built for it, its last DHCP xid, and its network, which no call
+// changes. `host` lends it to C, so its layout is C's.
 #[repr(C)]
 #[derive(Clone, Copy, PartialEq, Eq)]
 pub struct Guest {

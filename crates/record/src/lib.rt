@@ -1,5 +1,5 @@
-// The record that the host keeps for each guest, its network, and what a call answers. A record is changed by `spend`
-// and `note`, here alone; `making` makes one. No function relies on checks by its caller.
+// The record that the host keeps for each guest, its network, and what a call answers. A record is changed by
+// `spend` and `note`, here alone; `making` makes one. No function relies on checks by its caller.
 #![tactic(auto)]
 
 mod answer;

@@ -2,8 +2,8 @@
 ghost use Rattle.std.specs.Prelude.{◌≡◌};
 ghost use Rattle.record.specs.Network.{broadcast_of};
 
-// The gateway's address and the guest's, their mask, and the lease time in seconds. A record holds one, and `host` lends
-// that to C, so its layout is C's.
+// The gateway's address and the guest's, their mask, and the lease time in seconds. A record holds one, and
+// `host` lends that to C, so its layout is C's.
 #[repr(C)]
 #[derive(Clone, Copy, PartialEq, Eq)]
 pub struct Network {

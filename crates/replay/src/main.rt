@@ -1,6 +1,6 @@
 // Replays stored vectors: calls of `sums`, `frames`, `tcp`, `options`, `dhcp_reply`, `slirp` and `making`
-// with the answers that others gave, one to a line of standard input (oracle/README.md has the form). It prints
-// how many of each kind ran and agreed.
+// with the answers that others gave, one to a line of standard input (oracle/README.md has the form). It
+// prints how many of each kind ran and agreed.
 #![tactic(auto)]
 
 mod rows;
@@ -102,8 +102,8 @@ impl Run {
 
     // A call on another network is counted once more.
     fn count_call(&mut self, named: Named) {
-        self.count(rows::of_verdict(named.verdict), named.agrees);
-        self.count(rows::of_whose(named.whose), named.agrees);
+        self.count(rows::VERDICTS + usize::from(named.verdict), named.agrees);
+        self.count(rows::WHOSE + usize::from(named.whose), named.agrees);
         if self.guest.network != vectors::network() {
             self.count(rows::ELSEWHERE, named.agrees);
         }

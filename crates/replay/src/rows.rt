@@ -13,26 +13,18 @@ pub const UNREAD: usize = 0;
 // Lines spoiled on purpose, which agree where they are found wrong.
 pub const SPOILED: usize = 4;
 
-const VERDICTS: usize = 13;
+// The rows of gateway calls by their verdict start here.
+pub const VERDICTS: usize = 13;
 
 const RECORD_MADE: usize = 21;
 
 const RECORD_REFUSED: usize = 22;
 
-const WHOSE: usize = ONCE;
+// The rows of gateway calls by whose answer it is start here.
+pub const WHOSE: usize = ONCE;
 
 // Gateway calls on another network than document 01's.
 pub const ELSEWHERE: usize = 27;
-
-// The row of a gateway call by its verdict.
-pub fn of_verdict(verdict: u8) -> usize {
-    VERDICTS + (verdict as usize)
-}
-
-// The row of a gateway call by whose answer it is.
-pub fn of_whose(whose: u8) -> usize {
-    WHOSE + (whose as usize)
-}
 
 // The row of a line that has a record made.
 pub fn of_making(made: bool) -> usize {

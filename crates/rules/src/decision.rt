@@ -1,4 +1,5 @@
-// Document 01's tests on a guest frame, in its order. Of the record they see the network alone, and nothing of the room.
+// Document 01's tests on a guest frame, in its order. Of the record they see the network alone, and nothing
+// of the room.
 ghost use Rattle.std.specs.Prelude.{◌≡◌};
 ghost use Rattle.rules.specs.Rules.{decision, arp_decision, ip_decision, icmp_decision, udp_decision, dhcp_decision};
 
@@ -152,7 +153,8 @@ fn decide_dhcp(message: &[u8]) -> Result<Decision, Refusal>
         return Ok(Decision::DropNoting(xid));
     }
     let received = message_type(message).map_err(|cut| Refusal::CutType(cut.0))?;
-    // By a closure: tried with the function's name alone, and the check finds no contract for that in another crate.
+    // By a closure: tried with the function's name alone, and the check finds no contract for that in another
+    // crate.
     let Some(kind) = received.and_then(|kind| reply_type(kind)) else {
         return Ok(Decision::DropNoting(xid));
     };

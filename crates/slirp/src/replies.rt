@@ -1,5 +1,5 @@
-// The three replies: the room is asked for here, once for each, and the record changes here where it does. What a reply
-// holds, and how it is written, is its own crate's.
+// The three replies: the room is asked for here, once for each, and the record changes here where it does.
+// What a reply holds, and how it is written, is its own crate's.
 ghost use Rattle.std.specs.Prelude.{◌+◌, ◌≤◌, length, drop};
 ghost use Rattle.arp_reply.specs.Reply.{arp_reply_lem};
 ghost use Rattle.dhcp_reply.specs.Reply.{dhcp_frame};

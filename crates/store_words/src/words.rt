@@ -1,4 +1,5 @@
-// A state in six words, there and back: the C interface, where a phase is a number and what a state lacks is 0.
+// A state in six words, there and back: the C interface, where a phase is a number and what a state lacks is
+// 0.
 ghost use Rattle.std.specs.Prelude.{◌≡◌, ◌<◌};
 ghost use Rattle.store_words.specs.Words.{state_of, words_of, laid};
 ghost use Rattle.store_words.specs.helpers.Range.{NameInRange};

@@ -1,9 +1,9 @@
-// The Internet checksum of RFC 1071, right at every length. Document 02, request 13/13: eight bytes are taken a
-// step where there are eight, low byte first, as x86-64 and Arm load them. 65,536 folds to 1, and so does each of
-// its powers, so four bytes count as the number that they are, and the two bytes of the sum are exchanged at the
-// end: RFC 1071, section 2, (B) "byte order independence" and (C) "parallel summation". Request 3/13: a long
-// input is folded on the way, so that no total leaves 64 bits, and every fold is a straight step. The plain sum,
-// two bytes a step, stands at the end.
+// The Internet checksum of RFC 1071, right at every length. Document 02, request 13/13: eight bytes are taken
+// a step where there are eight, low byte first, as x86-64 and Arm load them. 65,536 folds to 1, and so does
+// each of its powers, so four bytes count as the number that they are, and the two bytes of the sum are
+// exchanged at the end: RFC 1071, section 2, (B) "byte order independence" and (C) "parallel summation".
+// Request 3/13: a long input is folded on the way, so that no total leaves 64 bits, and every fold is a
+// straight step. The plain sum, two bytes a step, stands at the end.
 #![tactic(auto)]
 
 ghost use Rattle.std.specs.Prelude.{◌≡◌, ◌+◌, ◌*◌, ◌/◌, ◌%◌, ◌^◌, ◌<◌, ◌≤◌, length, flat_map};
@@ -21,8 +21,8 @@ pub fn checksum(input: &[u8]) -> u16
     65535 - sum(0, input)
 }
 
-// The folded sum `start` continued over `input`. So several inputs are summed with no copy that
-// joins them, as long as each but the last has an even length. As a call of its own it cost a TCP frame without data 41
+// The folded sum `start` continued over `input`. So several inputs are summed with no copy that joins them,
+// as long as each but the last has an even length. As a call of its own it cost a TCP frame without data 41
 // instructions more.
 #[inline]
 pub fn sum(start: u16, input: &[u8]) -> u16
@@ -30,7 +30,8 @@ pub fn sum(start: u16, input: &[u8]) -> u16
 {
     let mut so_far = u32::from(exchanged(start));
     let mut rest = input;
-    // `for piece in input.chunks(PIECE)` was tried: 10 to 14 instructions more at every length, 112 for 101 at 64 bytes.
+    // `for piece in input.chunks(PIECE)` was tried: 10 to 14 instructions more at every length, 112 for 101
+    // at 64 bytes.
     while PIECE < rest.len() {
         let (piece, behind) = rest.split_at(PIECE);
         so_far = folded_to_32(total_behind(so_far, piece));
@@ -39,8 +40,8 @@ pub fn sum(start: u16, input: &[u8]) -> u16
     exchanged(folded(total_behind(so_far, rest)))
 }
 
-// The total behind `piece`, with no fold inside. 256 times this folds to what 256 times `so_far` and the words of the
-// piece themselves fold to.
+// The total behind `piece`, with no fold inside. 256 times this folds to what 256 times `so_far` and the
+// words of the piece themselves fold to.
 fn total_behind(so_far: u32, piece: &[u8]) -> u64
     requires { length piece.now ≤ longest_piece }
     ensures result_value { fold (result * 256) ≡ fold (so_far * 256 + total piece.now) }
@@ -50,9 +51,9 @@ fn total_behind(so_far: u32, piece: &[u8]) -> u64
     with_tail(eights_behind(u64::from(so_far), eights), rest)
 }
 
-// The same behind steps of eight bytes alone. The eight bytes of a step are added as one number, with no regard to
-// what is carried out of 64 bits, and their upper half by itself once more: that tells the sum of the lower halves,
-// `so_far` among them.
+// The same behind steps of eight bytes alone. The eight bytes of a step are added as one number, with no
+// regard to what is carried out of 64 bits, and their upper half by itself once more: that tells the sum of
+// the lower halves, `so_far` among them.
 fn eights_behind(so_far: u64, eights: &[[u8; 8]]) -> u64
     requires { (so_far ≤ most_folded) × (length eights.now ≤ longest_piece / 8) }
     ensures value { fold (result * 256) ≡ fold (so_far * 256 + total (flat_map (λ eight. eight) eights.now)) }
@@ -84,8 +85,8 @@ fn lower_halves(all: u64, upper: u64) -> u64
     all.wrapping_sub(upper % 4294967296 * 4294967296)
 }
 
-// What is left of a piece behind its eights: word by word, and an odd last byte with a 0 behind it. (That is the
-// word's low byte here, and its high half, as RFC 1071 has it, once the sum's bytes are exchanged.)
+// What is left of a piece behind its eights: word by word, and an odd last byte with a 0 behind it. (That is
+// the word's low byte here, and its high half, as RFC 1071 has it, once the sum's bytes are exchanged.)
 fn with_tail(so_far: u64, rest: &[u8]) -> u64
     requires { (length rest.now < 8) × (so_far ≤ most_behind (longest_piece / 4)) }
     ensures result_value { fold (result * 256) ≡ fold (so_far * 256 + total rest.now) }
@@ -152,8 +153,8 @@ fn exchanged(n: u16) -> u16
     n.swap_bytes()
 }
 
-// The same sum as `sum`, as a reader would write it: two bytes a step, the high one first, with a fold at each.
-// No exported function calls it; that both agree is a theorem (`wide_and_plain_agree`), so both stay.
+// The same sum as `sum`, as a reader would write it: two bytes a step, the high one first, with a fold at
+// each. No exported function calls it; that both agree is a theorem (`wide_and_plain_agree`), so both stay.
 pub fn plain(start: u16, input: &[u8]) -> u16
     ensures { result ≡ fold (start + total input.now) }
 {

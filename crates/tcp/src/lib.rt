@@ -50,8 +50,8 @@ const WINDOW: u16 = 65535;
 // A largest segment of 1,460 bytes, a no-operation, a window shift of 7.
 const SYN_OPTIONS: [u8; 8] = [0x02, 0x04, 0x05, 0xb4, 0x01, 0x03, 0x03, 0x07];
 
-// A frame around a segment with `data`. Where the SYN flag is set, its options stand before the data. (A struct of
-// the six would ask more of callers, who have it with these parameters.)
+// A frame around a segment with `data`. Where the SYN flag is set, its options stand before the data. (A
+// struct of the six would ask more of callers, who have it with these parameters.)
 pub fn make_tcp_frame(
     guest: Guest,
     ends: Endpoints,
@@ -68,8 +68,8 @@ pub fn make_tcp_frame(
     guest.built(build_frame(guest.id, ends, seq, ack, flags, data, out))
 }
 
-// The same with no record to hand back: the bytes written, or why none was. Each piece stands right behind the one before
-// it: the frame's headers, the segment's, its options, the data.
+// The same with no record to hand back: the bytes written, or why none was. Each piece stands right behind
+// the one before it: the frame's headers, the segment's, its options, the data.
 fn build_frame(
     id: u16,
     ends: Endpoints,
@@ -115,8 +115,8 @@ fn build_frame(
 }
 
 impl Segment {
-    // Over the pseudo-header, the header, its options and `data`. The sum goes on from piece to piece, so that nothing is
-    // copied behind the pseudo-header.
+    // Over the pseudo-header, the header, its options and `data`. The sum goes on from piece to piece, so
+    // that nothing is copied behind the pseudo-header.
     fn checksum(self, data: &[u8]) -> u16
         ensures { result ≡ Rfc1071·checksum
             (pseudo_header_lem self.ends.src_ip self.ends.dst_ip 6 self.len

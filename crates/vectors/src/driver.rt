@@ -8,8 +8,8 @@ pub trait Judge {
     fn take(&mut self, line: Option<&[u8]>);
 }
 
-// Hands on each line of `text`, which is read into `space`. (Where the next line starts is told by `decode`: a
-// `for`, which takes one step a turn, would be no plainer.)
+// Hands on each line of `text`, which is read into `space`. (Where the next line starts is told by `decode`:
+// a `for`, which takes one step a turn, would be no plainer.)
 pub fn replay<J: Judge>(text: &[u8], space: &mut [u8], judge: &mut J) {
     let mut at = 0;
     while at < text.len() {

@@ -2,8 +2,8 @@
 ghost use Rattle.std.specs.Prelude.{◌≡◌, ◌+◌, ◌%◌, ◌<◌};
 ghost use Rattle.vectors.specs.Payload.{Laid, payload_byte_lem};
 
-// Fills `out`: where the seed is 0 with what is written and zeros behind it, where it is 0xff with that
-// byte alone, else byte i is (seed + 17 i) mod 251. (Each turn reads at a place of `written` too, so an iterator
+// Fills `out`: where the seed is 0 with what is written and zeros behind it, where it is 0xff with that byte
+// alone, else byte i is (seed + 17 i) mod 251. (Each turn reads at a place of `written` too, so an iterator
 // would have to count it beside.)
 pub fn lay_payload(written: &[u8], seed: u8, out: &mut [u8])
     ensures { Laid written.now seed out.old out.new }

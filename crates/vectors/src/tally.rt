@@ -43,12 +43,11 @@ impl Tally {
 // Prints each row that has a case, and the sum of the first `once` rows: those behind them count
 // cases once more. `names` has a line for each row. A write that fails ends it.
 pub fn print<R: Print>(rt: &R, tally: Tally, names: &[u8], once: usize) -> io::Result<()> {
-    let right = tally.right;
-    let wrong = tally.wrong;
-    for row in 0..ROWS {
-        print_row(rt, name_of(names, row), right[row], wrong[row])?;
+    let counts = tally.right.iter().zip(tally.wrong.iter());
+    for (name, (right, wrong)) in names.split(|byte| *byte == b'\n').zip(counts) {
+        print_row(rt, name, *right, *wrong)?;
     }
-    print_counts(rt, total(right, once), total(wrong, once))
+    print_counts(rt, total(tally.right, once), total(tally.wrong, once))
 }
 
 fn total(counts: [u64; 32], once: usize) -> u64 {
@@ -70,8 +69,4 @@ fn print_row<R: Print>(rt: &R, name: &[u8], right: u64, wrong: u64) -> io::Resul
 
 fn print_counts<R: Print>(rt: &R, right: u64, wrong: u64) -> io::Result<()> {
     println!(rt; "{right} agree, {wrong} do not")
-}
-
-fn name_of(names: &[u8], row: usize) -> &[u8] {
-    names.split(|byte| *byte == b'\n').nth(row).unwrap_or(&[])
 }

@@ -1,4 +1,5 @@
-// A verdict as C is told it: document 01's number, which is returned, and its values. Nothing relies on checks by its caller.
+// A verdict as C is told it: document 01's number, which is returned, and its values. Nothing relies on
+// checks by its caller.
 #![tactic(auto)]
 
 ghost use Rattle.std.specs.Prelude.{[], ◌∷◌, ◌≡◌};

@@ -1,5 +1,6 @@
-// Readers of a buffer of any length: a byte past the end reads as 0. Whoever has to tell a short frame from zeros looks
-// at its length first, as document 01's order of tests does. Beside them the bytes of a number, for whoever writes one.
+// Readers of a buffer of any length: a byte past the end reads as 0. Whoever has to tell a short frame from
+// zeros looks at its length first, as document 01's order of tests does. Beside them the bytes of a number,
+// for whoever writes one.
 ghost use Rattle.std.specs.Prelude.{◌≡◌};
 ghost use Rattle.base.specs.Bytes.{u8_at, u16_at, u32_at, bytes_at as Bytes·bytes_at, be32 as Bytes·be32};
 
@@ -9,8 +10,8 @@ pub fn byte_at(buf: &[u8], at: usize) -> u8
     buf.get(at).copied().unwrap_or(0)
 }
 
-// As many bytes as the caller's array has: `let mac: [u8; 6] = bytes_at(frame, 6);`. (Each turn reads at a place, so an
-// iterator would have to count it beside.)
+// As many bytes as the caller's array has: `let mac: [u8; 6] = bytes_at(frame, 6);`. (Each turn reads at a
+// place, so an iterator would have to count it beside.)
 pub fn bytes_at<const N: usize>(buf: &[u8], at: usize) -> [u8; N]
     ensures { result ≡ Bytes·bytes_at buf.now at N }
 {

@@ -23,8 +23,9 @@ pub const DHCP_SERVER: u16 = 67;
 
 pub const DHCP_CLIENT: u16 = 68;
 
-// What UDP and TCP sum before the segment: both addresses, the protocol and the segment's length. (Byte by byte, as
-// the RFC has it, and so are all headers here: slices copied into a row of zeros were tried, and are no plainer.)
+// What UDP and TCP sum before the segment: both addresses, the protocol and the segment's length. (Byte by
+// byte, as the RFC has it, and so are all headers here: slices copied into a row of zeros were tried, and are
+// no plainer.)
 pub fn pseudo_header(src_ip: [u8; 4], dst_ip: [u8; 4], proto: u8, len: u16) -> [u8; 12]
     ensures { result ≡ pseudo_header_lem src_ip dst_ip proto len }
 {
