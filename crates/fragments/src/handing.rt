@@ -7,9 +7,10 @@ use crate::answer::{Site, Taken};
 use fragment_packets::{Packet, read};
 use fragment_rules::{Answer, Refusal, State};
 
-// The payload, as a part of the frame that passed or of the store that is complete; for every other
-// answer an empty part. It goes by the answer: a host that takes other frames before it uses the payload
-// keeps the `Taken` that said complete, or makes one with that answer and the state.
+// The payload, as a part of the frame that passed or of the store that is complete; for every other answer an
+// empty part, as `payload_of` in specs/ has it, and so no Option. It goes by the answer: a host that takes
+// other frames before it uses the payload keeps the `Taken` that said complete, or makes one with that answer
+// and the state.
 #[tactic(auto, unfolding(crate::specs::Handing::payload_at_lem))]
 pub fn payload<'a>(taken: Taken, frame: &'a [u8], bytes: &'a [u8]) -> &'a [u8]
     ensures { result.now ≡ payload_of taken.answer taken.state frame.now bytes.now }

@@ -69,7 +69,8 @@ pub fn make_ip_frame_in_place(
     guest.built(build_in_place(id, dst_mac, src_ip, dst_ip, proto, len, out))
 }
 
-// The same with no record to hand back: the bytes written, or why none was.
+// The same with no record to hand back: the bytes written, or why none was. (It is called once, with what
+// that call has.)
 fn build_in_place(
     id: u16,
     dst_mac: [u8; 6],

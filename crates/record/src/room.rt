@@ -1,4 +1,5 @@
-// The rules of 6 and 5, which each call that builds asks, 6 before 5.
+// The rules of 6 and 5, which each call that builds asks, 6 before 5. (One function for both would be handed
+// the refusal, and each call would write its number twice.)
 ghost use Rattle.std.specs.Prelude.{◌≡◌, ◌<◌, ◌≤◌, MatchResult};
 ghost use Rattle.record.specs.declared.answer.Refusal.TheVariants.{NoRoom, TooLong};
 
