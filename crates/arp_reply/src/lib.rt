@@ -28,7 +28,7 @@ pub fn put_arp_reply(gateway: [u8; 4], mac: [u8; 6], address: [u8; 4], out: &mut
     put(out, ethernet::HEADER, &inner);
 }
 
-// A reply between Ethernet and IPv4 addresses, of 6 and 4 bytes.
+// A reply between Ethernet and IPv4 addresses, of 6 and 4 bytes. (Byte by byte, as `wire::udp::pseudo_header`.)
 fn reply_packet(gateway: [u8; 4], mac: [u8; 6], address: [u8; 4]) -> [u8; 28]
     ensures { result ≡ packet 2 gateway_mac gateway mac address }
 {

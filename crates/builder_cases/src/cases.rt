@@ -61,6 +61,7 @@ fn kind_of(first: u8) -> Option<u8>
     }
 }
 
+// (A closure for each kind would be picked by the same match.)
 fn agrees(line: &[u8], kind: u8) -> bool {
     match kind {
         CHECKSUM => checksums::of_one_piece(line),

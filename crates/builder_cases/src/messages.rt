@@ -4,6 +4,7 @@ use options::CutAt;
 use record::Verdict;
 use wire::bytes::{byte_at, bytes_at, u16be, u32be};
 
+// As lines have it for a type that is cut off.
 const CUT: u8 = 7;
 
 // A line's message is made by rule up to a place, and written out behind it.

@@ -73,6 +73,7 @@ impl UdpDatagram {
         self.header_with(transmitted(65535 - sum_of_all))
     }
 
+    // (Byte by byte, as `wire::udp::pseudo_header`.)
     fn header_with(self, csum: u16) -> [u8; 8]
         ensures { result ≡ datagram_header csum self.src_port self.dst_port self.len }
     {

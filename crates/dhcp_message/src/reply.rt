@@ -77,7 +77,7 @@ pub fn build_reply(
     Ok(need)
 }
 
-// The same, with nothing to say: where it does not fit, nothing is written.
+// The same, with nothing to say: where it does not fit, nothing is written. (It takes what `build_reply` does.)
 pub fn put_reply(net: Network, mac: [u8; 6], xid: u32, kind: u8, out: &mut [u8])
     ensures { out.new ≡ put_if_fits 0 (Message·reply net mac xid kind) out.old }
 {
@@ -141,7 +141,7 @@ fn put_row(out: &mut [u8], at: usize, code: u8, value: [u8; 4])
     put(out, at, &[code, 4, value[0], value[1], value[2], value[3]]);
 }
 
-// All fields up to the MAC.
+// All fields up to the MAC. (Byte by byte, as `wire::udp::pseudo_header`.)
 fn first_fields(guest: [u8; 4], gateway: [u8; 4], mac: [u8; 6], xid: u32) -> [u8; ZEROS_AT]
     ensures { result ≡ first_fields_lem guest gateway mac xid }
 {

@@ -25,6 +25,7 @@ pub const FRAME: usize = MESSAGE_AT + REPLY_LENGTH;
 
 // A reply of type `kind` to the message whose xid is `xid`, in its frame to `dst_mac`, at the front of `out`;
 // where it does not fit, nothing is written. `mac` is the record's, not the request's.
+// (It takes what `put_reply` does, and what the frame needs: the gateway has each of these by itself.)
 pub fn put_dhcp_reply(
     net: Network,
     mac: [u8; 6],

@@ -17,7 +17,7 @@ pub const MESSAGE_AT: usize = ethernet::HEADER + ipv4::HEADER;
 const CHANGED: usize = 4;
 
 // The frame around the echo of `request`, at the front of `out`. Where the request has no checksum or is too
-// long for a packet, or the frame does not fit, nothing is written.
+// long for a packet, or the frame does not fit, nothing is written. (The gateway has each of these by itself.)
 pub fn put_echo_reply(
     dst_mac: [u8; 6],
     id: u16,

@@ -51,8 +51,8 @@ fn of_store(state: State, bytes: &[u8]) -> &[u8]
     &bytes[..stored_length(state, bytes.len())]
 }
 
-// How many bytes of a complete payload stand in a store of which so many are lent; none where a state
-// tells more.
+// How many bytes of a complete payload stand in a store of which so many are lent; none where a state tells
+// more, as `stored_length_lem` in specs/ has it, and so no Option.
 #[tactic(auto, unfolding(crate::specs::Handing::stored_length_lem))]
 pub fn stored_length(state: State, lent: usize) -> usize
     ensures { (result ≡ stored_length_lem state lent) × (result ≤ lent) }

@@ -118,6 +118,7 @@ impl Packet {
         self.header_with(checksum(&self.header_with(0)))
     }
 
+    // (Byte by byte, as `wire::udp::pseudo_header`.)
     fn header_with(self, csum: u16) -> [u8; 20]
         ensures { result ≡ header_with_lem csum self.total self.id self.proto self.src_ip self.dst_ip }
     {

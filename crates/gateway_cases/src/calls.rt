@@ -32,6 +32,7 @@ const FRAME_SIZE_AT: usize = 24;
 
 const FRAME_AT: usize = 26;
 
+// Verdicts, and whose they are, as lines have them.
 const VERDICTS: u8 = 8;
 
 const REPLY: u8 = 1;

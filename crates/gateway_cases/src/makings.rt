@@ -26,6 +26,7 @@ const ANSWER_AT: usize = 24;
 
 const LEASE_OF_RECORD_AT: usize = 25;
 
+// The answers, as lines have them.
 const MADE: u8 = 24;
 
 const BAD_RECORD: u8 = 9;

@@ -49,7 +49,8 @@ pub fn printed(input: &[u8]) -> Text
     answered(answer.verdict, &reply)
 }
 
-// The word of the verdict and its numbers; a reply stands at the front of `buffer`.
+// The word of the verdict and its numbers; a reply stands at the front of `buffer`. (By `Text` and not by
+// `Display`: what is printed is promised byte by byte.)
 #[tactic(auto, unfolding(record::specs::Answer::paper, crate::specs::Printed::line, crate::specs::Printed::answer_text))]
 fn answered(verdict: Result<Verdict, Refusal>, buffer: &[u8]) -> Text
     requires { length buffer.now ≤ 2048 }

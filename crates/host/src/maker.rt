@@ -9,7 +9,8 @@ const MADE: u32 = 24;
 
 const BAD_RECORD: u32 = 9;
 
-// A new guest's record in the memory lent, whatever it held: 24; or 9, and the memory is left as it was.
+// A new guest's record in the memory lent, whatever it held: 24; or 9, and the memory is left as it was. (C has
+// no Option and no Result: a lease time is named by a number beside it, and the answer is a number.)
 #[unsafe(no_mangle)]
 pub extern "C" fn yavoledu_make_guest(
     guest: &mut Guest,

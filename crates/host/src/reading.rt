@@ -14,7 +14,8 @@ const ABSENT: Layer = Layer {
 
 const OUTSIDE: u32 = 8;
 
-// The kind, from 1 in document 01's order, and the parts; or 8, and `parts` is left alone.
+// The kind, from 1 in document 01's order, and the parts; or 8, and `parts` is left alone. (C has no enum with
+// parts and no Option.)
 #[unsafe(no_mangle)]
 #[tactic(auto, unfolding(reader::specs::Reported::report_of, crate::specs::Parts::number_of, crate::specs::Parts::kind_number, crate::specs::Parts::places_of, crate::specs::Parts::places))]
 pub extern "C" fn yavoledu_read(frame: &[u8], parts: &mut [usize; 13]) -> u32

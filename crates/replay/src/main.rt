@@ -18,6 +18,7 @@ const TEXT_ROOM: usize = 1835008;
 const LONGEST_LINE: usize = 4096;
 
 fn main(rt: HostRuntime) -> io::Result<()> {
+    // No heap: rooms of a fixed size, cut to what is used.
     let mut space: [u8; 2097152] = vectors::filled(0);
     let text = vectors::front(&mut space, TEXT_ROOM);
     let n = read_full(&mut rt.reader(), text)?;

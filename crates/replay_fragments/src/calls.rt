@@ -12,7 +12,7 @@ pub struct Store<'a> {
 }
 
 // The frame that is to be taken, or None for a release; at which size the store is lent; and what is to be
-// answered and handed out.
+// answered and handed out. (Size and answer are the numbers that a step of a line has.)
 #[derive(Clone, Copy)]
 pub struct Call<'a> {
     pub frame: Option<&'a [u8]>,

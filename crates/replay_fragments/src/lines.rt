@@ -18,7 +18,8 @@ pub struct Run<'a> {
     train: Train<'a>,
 }
 
-// What a line is. (As numbers: a line has it as a byte, and it is looked at once.)
+// What a line is. (As numbers: a line has it as a byte. A closure
+// for each would be picked by the same match.)
 const TRAIN: u8 = 0;
 
 const FRAME: u8 = 1;

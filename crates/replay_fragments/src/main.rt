@@ -19,6 +19,7 @@ const TEXT_ROOM: usize = 1048576;
 const LONGEST_LINE: usize = 66000;
 
 fn main(rt: HostRuntime) -> io::Result<()> {
+    // No heap: rooms of a fixed size, cut to what is used.
     let mut text_space: [u8; 2097152] = vectors::filled(0);
     let text = vectors::front(&mut text_space, TEXT_ROOM);
     let n = read_full(&mut rt.reader(), text)?;

@@ -16,6 +16,7 @@ pub struct Replay {
     pub agrees: bool,
 }
 
+// The number that a step has for no frame or no payload: it is read into an Option at once.
 const NONE: u16 = 0x1fff;
 
 const NUMBERS: u16 = 0x2000;

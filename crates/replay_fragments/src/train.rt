@@ -14,6 +14,7 @@ pub struct Train<'a> {
     count: usize,
 }
 
+// What a piece is, as its first byte.
 const PLAIN: u8 = 0;
 
 const RUN: u8 = 1;

@@ -16,6 +16,7 @@ pub enum Case {
     Unread,
     // Whether a line spoiled on purpose was found wrong.
     Spoiled(bool),
+    // The origin and the kind as the line has them, each the number of a row.
     Compared { origin: u8, kind: u8, agrees: bool },
 }
 

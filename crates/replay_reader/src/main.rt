@@ -14,6 +14,7 @@ use vectors::{Judge, Tally};
 const LONGEST_LINE: usize = 66055;
 
 fn main(rt: HostRuntime) -> io::Result<()> {
+    // No heap: rooms of a fixed size, cut to what is used.
     let mut text: [u8; 2097152] = vectors::filled(0);
     let n = read_full(&mut rt.reader(), &mut text)?;
     if n == text.len() {

@@ -128,6 +128,7 @@ impl Segment {
         65535 - sum(sum(sum(sum(0, &pseudo), &blank), options(self.flags)), data)
     }
 
+    // (Byte by byte, as `wire::udp::pseudo_header`.)
     fn header_with(self, csum: u16) -> [u8; 20]
         ensures { result ≡ segment_header_lem csum self.ends.src_port self.ends.dst_port self.seq self.ack self.flags }
     {
