@@ -37,3 +37,15 @@ module _ {old : Guest} {mac gateway guest mask : List ℕ} {lease : Option ℕ} 
   pub make_over_answers_once : {n n' : ℕ} {g g' : Guest} → MadeOver old mac gateway guest mask lease n g → MadeOver old mac gateway guest mask lease n' g' → (n ≡ n') × (g ≡ g')
   make_over_answers_once (made_over h n s) m = let e = over_if_good m h in (n ∙ sym e.0, s ∙ sym e.1)
   make_over_answers_once (refused_over b n s) m = let e = over_if_bad m b in (n ∙ sym e.0, s ∙ sym e.1)
+
+-- what the function answers is told by its number
+pub number_of_one_to_one : (r s : Result (Unit {0}) BadRecord) → number_of r ≡ number_of s → r ≡ s
+number_of_one_to_one (Ok x) (Ok y) e = refl
+number_of_one_to_one (Ok x) (Err y) e = cc
+number_of_one_to_one (Err x) (Ok y) e = cc
+number_of_one_to_one (Err x) (Err y) e = refl
+
+-- the same of what the function itself answers
+pub make_over_results_once : {old g g' : Guest} {mac gateway guest mask : List ℕ} {lease : Option ℕ} (r s : Result (Unit {0}) BadRecord)
+    → MadeOver old mac gateway guest mask lease (number_of r) g → MadeOver old mac gateway guest mask lease (number_of s) g' → (r ≡ s) × (g ≡ g')
+make_over_results_once r s p q = let same = make_over_answers_once p q in (number_of_one_to_one r s same.0, same.1)

@@ -1,6 +1,6 @@
 -- The contracts leave one answer: `paper` is one-to-one, so whatever meets a contract twice on the same input has answered the same twice.
 use Rattle.std.proofs.Common.{◌≡◌, ℕ, cond, eqb, List, get_or, Result, Ok, Err, sym, refl, ap, ◌∙◌}
-use Rattle.record.specs.Answer.{paper, Writing, Outcome, Wrote, Meets}
+use Rattle.record.specs.Answer.{paper, Writing, Outcome, Wrote, Meets, as_verdict}
 use Rattle.record.specs.declared.answer.Answer.{Answer}
 use Rattle.record.specs.declared.answer.Verdict.{Verdict}
 use Rattle.record.specs.declared.answer.Verdict.TheVariants.{Drop, Reply, Dns, Relay, Tcp}
@@ -35,6 +35,18 @@ paper_one_to_one v w e = sym (verdict_back v) ∙ ap verdict_of e ∙ verdict_ba
 
 pub one_writing : (w : Writing) (before after after' : List ℕ) (v v' : Result Verdict Refusal) → Wrote w before after v → Wrote w before after' v' → (v ≡ v') × (after ≡ after')
 one_writing w before after after' v v' p q = (paper_one_to_one v v' (p.numbers ∙ sym q.numbers), p.bytes ∙ sym q.bytes)
+
+-- what a builder answers that hands no record back is told by the verdict that it is
+pub as_verdict_one_to_one : (r s : Result ℕ Refusal) → as_verdict r ≡ as_verdict s → r ≡ s
+as_verdict_one_to_one (Ok m) (Ok n) e = cc
+as_verdict_one_to_one (Ok m) (Err x) e = cc
+as_verdict_one_to_one (Err x) (Ok n) e = cc
+as_verdict_one_to_one (Err x) (Err y) e = cc
+
+pub one_built : (w : Writing) (before after after' : List ℕ) (r r' : Result ℕ Refusal) → Wrote w before after (as_verdict r) → Wrote w before after' (as_verdict r') → (r ≡ r') × (after ≡ after')
+one_built w before after after' r r' p q =
+    let same = one_writing w before after after' (as_verdict r) (as_verdict r') p q in
+    (as_verdict_one_to_one r r' same.0, same.1)
 
 pub one_outcome : (o : Outcome) (before after after' : List ℕ) (a a' : Answer) → Meets o before after a → Meets o before after' a' → (a ≡ a') × (after ≡ after')
 one_outcome o before after after' a a' p q =
