@@ -129,16 +129,9 @@ class Comparison:
 
     def compare_measure(self, function, loop, row):
         # What walks is of the standard library, and its measure too.
-        if loop in function.walks:
-            return
-        what, said = f"the loop '{loop.head}' of '{function.title}'", code_in(row.cells["falls"])
-        measure = measure_of_loop(self.library, function, loop)
-        # A `for` takes each item of what it goes over once, so its proof needs no number; the page then says in words what is left.
-        if loop.words[0] == "for" and measure[2] is None:
-            if said or not row.cells["falls"].strip():
-                self.fault(PAGE, row.line, f"{what} has no measure in {measure[0]}: the page says in words, with nothing in backticks, what falls")
-            return
-        self.compare_falls(measure, said, row, what, loop.line, function.file)
+        if loop not in function.walks:
+            self.compare_falls(measure_of_loop(self.library, function, loop), code_in(row.cells["falls"]), row,
+                               f"the loop '{loop.head}' of '{function.title}'", loop.line, function.file)
 
     def compare_falls(self, measure, said, row, what, line, file):
         proof, name, proved = measure

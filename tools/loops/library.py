@@ -11,9 +11,9 @@ EXPORTED = "host"
 NUMBERS = {"u8", "u16", "u32", "u64", "usize", "i8", "i16", "i32", "i64", "isize", "f32", "f64"}
 FUNCTIONS_OF_NUMBERS = {"count_ones", "leading_zeros", "trailing_zeros", "from", "try_from", "from_be_bytes", "from_le_bytes"}
 METHODS_OF_THE_LANGUAGE = {
-    "len", "is_empty", "count_ones", "wrapping_add", "wrapping_sub", "saturating_sub", "div_ceil", "min", "swap_bytes", "to_be_bytes",
+    "len", "is_empty", "count_ones", "wrapping_add", "wrapping_sub", "saturating_add", "saturating_sub", "div_ceil", "min", "swap_bytes", "to_be_bytes",
     # of a slice: parts of it, and what goes over it with no step taken
-    "get", "split_at", "as_chunks", "first_chunk_mut", "iter",
+    "get", "split_at", "as_chunks", "first_chunk", "first_chunk_mut", "iter",
     # of an Option or a Result, and of a bool that makes one; what a closure calls is read where it stands
     "copied", "unwrap_or", "is_some", "is_none", "is_ok", "ok_or", "map", "map_err", "and_then", "then_some",
 } | set(WALKS)

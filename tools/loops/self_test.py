@@ -8,7 +8,7 @@ import tempfile
 from collections import namedtuple
 from concurrent.futures import ThreadPoolExecutor
 
-from loops.comparison import MEASURE, Comparison, check, measure_of_function, measure_of_loop, quoted
+from loops.comparison import Comparison, check, measure_of_function, measure_of_loop, quoted
 from loops.library import EXPORTED, LIBRARY
 from loops.page import PAGE, code_in
 from loops.sources import WALKS
@@ -158,12 +158,7 @@ def changed_loops(library):
             said = f"the loop '{loop.head}' of '{function.title}'"
             for other in other_heads(loop.head):
                 yield Case(f"another head: {said}", change_head(function, loop, other), f"the loop '{other}' of '{function.title}' is not in")
-            proof, name, measure = measure_of_loop(library, function, loop)
-            if measure is None:
-                yield Case(f"a measure in the proof of a loop that had none: {said}", add_measure(proof, min(loop.names, key=len), loop),
-                           f"for {said} the number that falls is '1'")
-            else:
-                yield from changed_measures(proof, name, measure, said)
+            yield from changed_measures(*measure_of_loop(library, function, loop), said)
     for cycle in library.cycles():
         for function in cycle:
             yield from changed_measures(*measure_of_function(library, function), f"the recursion of '{function.title}'")
@@ -180,13 +175,6 @@ def change_head(function, loop, other):
     def edit(tree):
         text = tree.read(function.file)
         tree.write(function.file, text[:loop.start] + other + text[loop.end:])
-    return edit
-
-
-def add_measure(proof, name, loop):
-    """A measure for a loop whose proof has none."""
-    def edit(tree):
-        tree.write(proof, (tree.read(proof) if os.path.exists(os.path.join(tree.folder, proof)) else "") + f"\n{MEASURE}{name} l = 1\n")
     return edit
 
 

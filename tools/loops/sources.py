@@ -123,8 +123,6 @@ class Function:
         self.module, self.owner, self.name, self.line = module, owner, name, line
         self.type = None
         self.is_exported = self.takes_self = False
-        # The names of its const parameters.
-        self.constants = set()
         # Its loops, and each call of a method that walks, which is listed as a loop is; the name of the cycle that it says it is in.
         self.loops, self.walks, self.calls, self.callees = [], [], [], set()
         self.cycle_name = None
@@ -138,10 +136,6 @@ class Function:
     def title(self):
         """Its name as the page has it: `f`, or `Type::f`."""
         return f"{self.owner}::{self.name}" if self.owner else self.name
-
-    def is_fixed(self, loop):
-        """Whether the loop goes over as many places as a const parameter says: a number that the text of a caller fixes."""
-        return loop.words[:1] == ("for",) and loop.words[2:5] == ("in", "0", "..") and set(loop.words[5:]) <= self.constants
 
     @property
     def place(self):
@@ -417,7 +411,6 @@ def read_function(cursor, module, owner, attributes, is_public):
     parameters = cursor.take_bracketed()
     behind = cursor.take_until("{", ";")
     refuse(before + parameters + behind, WORDS_UNREAD_IN_TYPES, f"the parameters of '{name.text}'")
-    function.constants = {behind.text for word, behind in zip(before, before[1:]) if word.text == "const"}
     function.takes_self = any(token.text == "self" for token in parameters[:4])
     while not cursor.is_at_end() and cursor.tokens[cursor.at].kind == "contract":
         cursor.take()

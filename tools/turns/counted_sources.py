@@ -10,9 +10,6 @@
 5. What is handed to `copy_from_slice`, what `fill` is called on and the test that `all` is handed go through `turns::copied(K, ..)`,
    `turns::filled(K, ..)` and `turns::tested(K, ..)`, which count a turn for each byte or number.
 
-A loop that goes over as many places as a const parameter says has a counter too, and what it counts is left out of a whole call: the length
-is a number of the text's, as that of an array that is copied.
-
 Nothing else is changed: names, numbers, conditions, order and crates stay as they are.
 """
 import re
@@ -78,12 +75,10 @@ class Counters:
     """What has a counter, in the order of the counters: the loops, and the groups of functions that call each other."""
 
     def __init__(self, library):
-        self.numbers, self.loops, self.recursions, self.fixed = {}, [], [], []
+        self.numbers, self.loops, self.recursions = {}, [], []
         for function in library.functions:
             for loop in function.loops + function.walks:
                 self.numbers[function, loop] = len(self.loops)
-                if function.is_fixed(loop):
-                    self.fixed.append(len(self.loops))
                 self.loops.append(Counted(function.file, [function.title]))
         self.cycles = library.cycles()
         for cycle in self.cycles:
@@ -196,8 +191,7 @@ def driver_of(repository, folder, shipped=None):
     counters = Counters(library)
     crates = list(own_crates(repository, library, counters))
     here = Path(__file__).parent
-    fixed = f"pub const FIXED: [usize; {len(counters.fixed)}] = {counters.fixed};\n"
-    parts = [(here / "turns.rs").read_text(), listed("LOOPS", counters.loops), listed("RECURSIONS", counters.recursions), fixed, longest_piece(crates)]
+    parts = [(here / "turns.rs").read_text(), listed("LOOPS", counters.loops), listed("RECURSIONS", counters.recursions), longest_piece(crates)]
     (folder / "turns.rs").write_text("\n".join(parts))
     compiled(["--crate-type", "rlib", "--crate-name", "turns", "--out-dir", folder, folder / "turns.rs"], folder)
     for crate in crates:

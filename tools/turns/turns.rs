@@ -123,11 +123,9 @@ pub struct Taken {
 }
 
 impl Taken {
-    /// All turns of all loops but those of a length that the text fixes, and all calls of the recursions, each of which
-    /// counts as a turn.
+    /// All turns of all loops, and all calls of the recursions, each of which counts as a turn.
     pub fn whole(&self) -> u64 {
-        let fixed: u64 = FIXED.iter().map(|k| self.turns[*k]).sum();
-        self.turns.iter().chain(&self.calls).sum::<u64>() - fixed
+        self.turns.iter().chain(&self.calls).sum()
     }
 }
 
@@ -162,4 +160,4 @@ pub fn counted() -> Taken {
     }
 }
 
-// Behind this line counted_sources.py writes what has a counter, LOOPS and RECURSIONS, in the order of the counters, FIXED and PIECE of `sums`.
+// Behind this line counted_sources.py writes what has a counter, LOOPS and RECURSIONS, in the order of the counters, and PIECE of `sums`.

@@ -16,6 +16,8 @@ pub fn of_two_pieces(line: &[u8]) -> bool {
     65535 - sums::sum(sums::sum(0, &line[5..5 + n]), &line[5 + n..]) == u16be(line, 1)
 }
 
+// (A call of its own: as a part of its caller its room would be entered for each line of any kind.)
+#[inline(never)]
 pub fn of_bytes_by_rule(line: &[u8]) -> bool {
     let len = u32be(line, 4) as usize;
     let mut space: [u8; 300032] = vectors::filled(0);

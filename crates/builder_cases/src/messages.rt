@@ -10,6 +10,8 @@ const CUT: u8 = 7;
 // A line's message is made by rule up to a place, and written out behind it.
 const WRITTEN_AT: usize = 11;
 
+// (A call of its own: as a part of its caller its room would be entered for each line of any kind.)
+#[inline(never)]
 pub fn walks(line: &[u8]) -> bool {
     if line.len() < WRITTEN_AT {
         return false;
@@ -75,6 +77,8 @@ pub fn reply_types(line: &[u8]) -> bool {
     true
 }
 
+// (A call of its own, as `walks`.)
+#[inline(never)]
 pub fn builds_reply(line: &[u8]) -> bool {
     let room = u32be(line, 12) as usize;
     let mut space: [u8; 70400] = vectors::filled(vectors::MARK);

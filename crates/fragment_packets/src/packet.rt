@@ -1,9 +1,8 @@
 // What a frame is: RFC 791, sections 3.1 and 3.2, as document 02 condenses them.
-ghost use Rattle.std.specs.Prelude.{◌≡◌, ◌≤◌};
+ghost use Rattle.std.specs.Prelude.{◌≡◌, ◌-◌, ◌^◌, ◌≤◌, ◌<◌, min};
 ghost use Rattle.fragment_packets.specs.Packets.{sound, sound_header, packet_of, is_whole_lem, good_length, datagram_of_lem, end_of, first_block, stop_block};
 
-use bitmap::{BLOCK, blocks_of};
-use std::marker::Model;
+use bitmap::BLOCK;
 use sums::sum;
 use wire::bytes::{byte_at, u16be, u32be};
 use wire::{ethernet, ipv4};
@@ -22,7 +21,8 @@ pub struct Datagram {
 }
 
 // A fragment: its datagram, where its payload stands in the frame, its place in the datagram's
-// payload, and whether it is the last. Its bytes end within the longest payload.
+// payload, and whether it is the last. Any numbers may stand in it; one of `read` ends within the longest
+// payload. (With an invariant that says so, a `Packet` could not be passed by value twice.)
 #[derive(Clone, Copy)]
 pub struct Fragment {
     pub datagram: Datagram,
@@ -32,26 +32,13 @@ pub struct Fragment {
     pub last: bool,
 }
 
-impl Model for Fragment {
-    ghost use Rattle.std.specs.Prelude.{◌+◌, ◌≤◌};
-    ghost use Rattle.fragment_packets.specs.Piece.{Piece};
-
-    ghost Value = { Piece };
-
-    ghost view = { λ f. record { datagram = f.datagram; start = f.start; length = f.length; offset = f.offset; last = f.last } };
-
-    ghost invariant = { λ f. f.offset + f.length ≤ 65515 };
-
-    ghost inverse = { λ p. record { datagram = p.datagram; start = p.start; length = p.length; offset = p.offset; last = p.last } };
-}
-
 impl Fragment {
-    // Where its bytes end in the datagram's payload.
+    // Where its bytes end in the datagram's payload; the largest number where that is past all numbers.
     pub fn end(self) -> usize
-        ensures place { result ≡ end_of self }
-        ensures short { result ≤ 65515 }
+        ensures place { result ≡ min (end_of self) (2 ^ 64 - 1) }
+        ensures short { end_of self ≤ 65515 → result ≤ 65515 }
     {
-        self.offset + self.length
+        self.offset.saturating_add(self.length)
     }
 
     // Its first block.
@@ -61,11 +48,12 @@ impl Fragment {
         self.offset / BLOCK
     }
 
-    // The block behind its last.
+    // The block behind its last. It counts as `blocks_of` does, which takes 32 bits, and an end may have 64.
+    #[tactic(auto, unfolding(bitmap::specs::Bitmap::blocks_of_lem))]
     pub fn stop_block(self) -> usize
-        ensures { result ≡ stop_block self }
+        ensures { end_of self < 2 ^ 64 → result ≡ stop_block self }
     {
-        blocks_of(self.end() as u32)
+        self.end().div_ceil(BLOCK)
     }
 }
 

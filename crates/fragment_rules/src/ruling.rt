@@ -1,7 +1,8 @@
 // Document 02's refusals in their order, one test a line.
-ghost use Rattle.std.specs.Prelude.{◌≡◌};
+ghost use Rattle.std.specs.Prelude.{◌≡◌, ◌≤◌};
 ghost use Rattle.bitmap.specs.Bitmap.{bit};
 ghost use Rattle.fragment_rules.specs.Rules.{ruling, part_ruling, is_held, overlaps, known_end_lem, wrong_end, end_with_lem, of_size_lem};
+ghost use Rattle.fragment_packets.specs.Packets.{end_of};
 
 use crate::answer::{Refusal, State};
 use fragment_packets::{Datagram, Fragment, Packet, read};
@@ -21,7 +22,7 @@ pub enum Ruling {
 }
 
 // What is to be done with `frame`, where `bytes` of the store are lent.
-#[tactic(auto, unfolding(crate::specs::Rules::ruling, crate::specs::Rules::packet_ruling))]
+#[tactic(auto, using(fragment_packets::proofs::Fitting::part_fits), unfolding(crate::specs::Rules::ruling, crate::specs::Rules::packet_ruling))]
 pub fn rule(state: State, frame: &[u8], bytes: usize, bits: &[u64]) -> Result<Ruling, Refusal>
     ensures { result ≡ ruling state frame.now bytes bits.now }
 {
@@ -37,6 +38,7 @@ pub fn rule(state: State, frame: &[u8], bytes: usize, bits: &[u64]) -> Result<Ru
 // The same of a fragment that is fit.
 #[tactic(auto, unfolding(crate::specs::Rules::part_ruling))]
 fn rule_part(state: State, fragment: Fragment, bits: &[u64]) -> Result<Ruling, Refusal>
+    requires { end_of fragment ≤ 65515 }
     ensures { result ≡ part_ruling state (bit bits.now) fragment }
 {
     let end = known_end(state);
@@ -75,6 +77,7 @@ fn is_held(state: State, datagram: Datagram) -> bool
 // 12: a block is already there.
 #[tactic(auto, unfolding(crate::specs::Rules::overlaps))]
 fn has_block(fragment: Fragment, bits: &[u64]) -> bool
+    requires { end_of fragment ≤ 65515 }
     ensures { result ≡ overlaps fragment (bit bits.now) }
 {
     bitmap::count(bits, fragment.first_block(), fragment.stop_block()) != 0
@@ -95,6 +98,7 @@ fn known_end(state: State) -> Option<u16>
 // 13: a second last, a fragment past the known end, or a last that ends at or before a stored block's start.
 #[tactic(auto, unfolding(crate::specs::Rules::wrong_end))]
 fn has_wrong_end(fragment: Fragment, end: Option<u16>, bits: &[u64]) -> bool
+    requires { end_of fragment ≤ 65515 }
     ensures { result ≡ wrong_end fragment end (bit bits.now) }
 {
     match end {
@@ -106,6 +110,7 @@ fn has_wrong_end(fragment: Fragment, end: Option<u16>, bits: &[u64]) -> bool
 // The end once the fragment is stored: a last one tells it.
 #[tactic(auto, unfolding(crate::specs::Rules::end_with_lem))]
 fn end_with(fragment: Fragment, end: Option<u16>) -> Option<u16>
+    requires { end_of fragment ≤ 65515 }
     ensures { result ≡ end_with_lem fragment end }
 {
     if fragment.last {

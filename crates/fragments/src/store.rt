@@ -1,7 +1,7 @@
 // The calls that change a store: a frame is taken, the store released.
 ghost use Rattle.std.specs.Prelude.{◌≡◌, ◌+◌, ◌≤◌, ◌==◌, length, Ok};
 ghost use Rattle.bitmap.specs.Bitmap.{bit, blocks_of_lem, count, having};
-ghost use Rattle.fragment_packets.specs.Packets.{first_block, stop_block};
+ghost use Rattle.fragment_packets.specs.Packets.{end_of, first_block, stop_block};
 ghost use Rattle.fragments.specs.helpers.Settling.{Settles};
 ghost use Rattle.fragments.specs.Promises.{Takes, Effect, Releases};
 
@@ -44,6 +44,7 @@ fn write(
     bits: &mut [u64],
 ) -> Taken
     requires in_frame { fragment.start + fragment.length ≤ length frame.now }
+    requires short { end_of fragment ≤ 65515 }
     requires of_size { (length bytes.old ≡ 65515) × (length bits.old ≡ 128) }
     ensures settles { Settles fragment.datagram end (having (bit bits.old) (first_block fragment) (stop_block fragment)) result }
     ensures effect { Effect (Ok (Ruling.Write fragment end)) frame.now bytes.old bits.old bytes.new bits.new }

@@ -139,7 +139,9 @@ fn judged(fields: &[u8], before: Guest) -> Outcome
     }
 }
 
-// Lays out the frame.
+// Lays out the frame. (A call of its own: as a part of its caller its rooms would be entered for each line,
+// blank ones too.)
+#[inline(never)]
 fn call(fields: &[u8], before: Guest) -> Option<Checked> {
     let size = u16be(fields, FRAME_SIZE_AT) as usize;
     let pieces = fields.get(FRAME_AT..)?.get(..size)?;

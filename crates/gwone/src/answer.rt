@@ -41,58 +41,69 @@ fn new_guest() -> Guest
 pub fn printed(input: &[u8]) -> Text
     ensures { result ≡ printed input.now }
 {
+    let mut text = Text::new();
+    print(input, &mut text);
+    text
+}
+
+// The same in a text that is handed from call to call. (As each call's own result it took four times the
+// stack.)
+fn print(input: &[u8], text: &mut Text)
+    requires { text.old ≡ [] }
+    ensures { text.new ≡ printed input.now }
+{
     if FRAME_LIMIT < input.len() {
-        return line(b"input over 2048", &[]);
+        return line(b"input over 2048", &[], text);
     }
     let mut reply = [0; 2048];
     let answer = slirp::handle(new_guest(), input, &mut reply);
-    answered(answer.verdict, &reply)
+    answered(answer.verdict, &reply, text);
 }
 
 // The word of the verdict and its numbers; a reply stands at the front of `buffer`. (By `Text` and not by
 // `Display`: what is printed is promised byte by byte.)
 #[tactic(auto, unfolding(record::specs::Answer::paper, crate::specs::Printed::line, crate::specs::Printed::answer_text))]
-fn answered(verdict: Result<Verdict, Refusal>, buffer: &[u8]) -> Text
-    requires { length buffer.now ≤ 2048 }
-    ensures { result ≡ answer_text (paper verdict) buffer.now }
+fn answered(verdict: Result<Verdict, Refusal>, buffer: &[u8], text: &mut Text)
+    requires buffer_len_bound { length buffer.now ≤ 2048 }
+    requires empty { text.old ≡ [] }
+    ensures { text.new ≡ answer_text (paper verdict) buffer.now }
 {
     match verdict {
-        Ok(Verdict::Drop) => line(b"drop", &[]),
-        Ok(Verdict::Reply(n)) => reply(n, front(buffer, n)),
-        Ok(Verdict::Dns { start, len }) => line(b"dns", &[start, len]),
-        Ok(Verdict::Relay { start, len }) => line(b"relay", &[start, len]),
-        Ok(Verdict::Tcp(len)) => line(b"tcp", &[len]),
-        Err(Refusal::NoRoom(needed)) => line(b"refused", &[NO_ROOM, needed]),
-        Err(Refusal::TooLong(len)) => line(b"refused", &[TOO_LONG, len]),
-        Err(Refusal::CutType(place)) => line(b"refused", &[CUT_TYPE, place]),
+        Ok(Verdict::Drop) => line(b"drop", &[], text),
+        Ok(Verdict::Reply(n)) => reply(n, front(buffer, n), text),
+        Ok(Verdict::Dns { start, len }) => line(b"dns", &[start, len], text),
+        Ok(Verdict::Relay { start, len }) => line(b"relay", &[start, len], text),
+        Ok(Verdict::Tcp(len)) => line(b"tcp", &[len], text),
+        Err(Refusal::NoRoom(needed)) => line(b"refused", &[NO_ROOM, needed], text),
+        Err(Refusal::TooLong(len)) => line(b"refused", &[TOO_LONG, len], text),
+        Err(Refusal::CutType(place)) => line(b"refused", &[CUT_TYPE, place], text),
     }
 }
 
 // A line of a word, or a few, and at most two numbers.
-fn line(word: &[u8], numbers: &[usize]) -> Text
+fn line(word: &[u8], numbers: &[usize], text: &mut Text)
     requires word_len_bound { length word.now ≤ 15 }
     requires numbers_len_bound { length numbers.now ≤ 2 }
-    ensures line { result ≡ word.now ++ spaced numbers.now ++ ascii "\n" }
-    ensures upper_bound { length result ≤ 64 }
+    requires empty { text.old ≡ [] }
+    ensures line { text.new ≡ word.now ++ spaced numbers.now ++ ascii "\n" }
+    ensures upper_bound { length text.new ≤ 64 }
 {
-    let mut text = Text::new();
     text.push(word);
     for number in numbers {
         text.push_number(*number);
     }
     text.push(b"\n");
-    text
 }
 
 // The line of a reply and one of its bytes in hex.
-fn reply(n: usize, bytes: &[u8]) -> Text
-    requires { length bytes.now ≤ 2048 }
-    ensures { result ≡ ascii "reply" ++ spaced (n ∷ []) ++ ascii "\n" ++ hex bytes.now ++ ascii "\n" }
+fn reply(n: usize, bytes: &[u8], text: &mut Text)
+    requires bytes_len_bound { length bytes.now ≤ 2048 }
+    requires empty { text.old ≡ [] }
+    ensures { text.new ≡ ascii "reply" ++ spaced (n ∷ []) ++ ascii "\n" ++ hex bytes.now ++ ascii "\n" }
 {
-    let mut text = line(b"reply", &[n]);
+    line(b"reply", &[n], text);
     text.push_hex(bytes);
     text.push(b"\n");
-    text
 }
 
 // The first `n` bytes, or all where there are fewer.

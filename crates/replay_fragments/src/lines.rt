@@ -84,7 +84,9 @@ impl<'a> Run<'a> {
         Some(())
     }
 
-    // The calls of a spoiled replay are not counted.
+    // The calls of a spoiled replay are not counted. (A call of its own: as a part of `take` its room would be
+    // entered for each line, blank ones too.)
+    #[inline(never)]
     fn replay(&mut self, line: &[u8]) -> Option<()> {
         let mut space: [u8; 70400] = vectors::filled(vectors::MARK);
         let mut store = Store {

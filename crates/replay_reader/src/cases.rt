@@ -53,7 +53,9 @@ fn compared(line: &[u8]) -> Option<Case> {
     compare(line, kind, end)
 }
 
-// What is expected ends at `end`.
+// What is expected ends at `end`. (A call of its own: as a part of `take` its room would be entered for each
+// line, blank ones too.)
+#[inline(never)]
 fn compare(line: &[u8], kind: u8, end: usize) -> Option<Case>
     requires { end ≤ 51 }
 {

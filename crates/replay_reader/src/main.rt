@@ -36,6 +36,6 @@ struct Run {
 
 impl Judge for Run {
     fn take(&mut self, line: Option<&[u8]>) {
-        self.tally = rows::counted(self.tally, cases::judge(line));
+        rows::count(&mut self.tally, cases::judge(line));
     }
 }

@@ -13,18 +13,19 @@ const ORIGINS: usize = 1;
 
 const KINDS: usize = 9;
 
-pub fn counted(tally: Tally, case: Case) -> Tally {
+// (In place: handed on by value, the whole tally was copied for each line.)
+pub fn count(tally: &mut Tally, case: Case) {
     match case {
-        Case::Blank => tally,
-        Case::Unread => tally.counted(UNREAD, false),
-        Case::Spoiled(found) => tally.counted(SPOILED, found),
+        Case::Blank => {}
+        Case::Unread => *tally = tally.counted(UNREAD, false),
+        Case::Spoiled(found) => *tally = tally.counted(SPOILED, found),
         Case::Compared {
             origin,
             kind,
             agrees,
         } => {
-            let once = tally.counted(ORIGINS + (origin as usize), agrees);
-            once.counted(KINDS + (kind as usize), agrees)
+            *tally = tally.counted(ORIGINS + (origin as usize), agrees);
+            *tally = tally.counted(KINDS + (kind as usize), agrees);
         }
     }
 }

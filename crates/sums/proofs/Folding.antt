@@ -79,6 +79,27 @@ fold_bound_is_met = refl
 pub inside_64_bits : (n : ℕ) → n ≤ longest_piece → most_behind ((n + 3) / 4) < 18446744073709551616
 inside_64_bits n h = omega arith
 
+-- The code folds between two pieces, what `total_behind` promises of the first by `folded_to_32`: whatever total of 64 bits stands there, what is
+-- carried on is at most 4,294,967,295,
+pub carried_most : (s : ℕ) → s < 18446744073709551616 → fold_to32 (fold_to32 s) ≤ 4294967295
+carried_most s h = let below = to_32_twice_below s h in omega (arith, below)
+
+-- where the bound is met (a piece of bytes ff behind a total of 0 comes to it, and so does the largest total of 64 bits),
+pub carried_bound_is_met : (fold_to32 (fold_to32 (4294967295 * (longest_piece / 4))) ≡ 4294967295) × (fold_to32 (fold_to32 18446744073709551615) ≡ 4294967295)
+carried_bound_is_met = (refl, refl)
+
+-- and with it the total behind any part of the next piece stays inside, each four of its bytes being at most 4,294,967,295;
+pub inside_with_what_is_carried : (s n : ℕ) → s < 18446744073709551616 → n ≤ longest_piece → fold_to32 (fold_to32 s) + 4294967295 * ((n + 3) / 4) < 18446744073709551616
+inside_with_what_is_carried s n h k = let most = carried_most s h in omega (arith, most)
+
+-- so that from piece to piece every total that the contract of `total_behind` lets stand there stays inside, and what is carried has 32 bits.
+pub between_pieces : (behind n : ℕ) → n ≤ longest_piece → behind ≤ most_behind ((n + 3) / 4)
+    → (behind < 18446744073709551616) × (fold_to32 (fold_to32 behind) ≤ 4294967295)
+between_pieces behind n k h =
+    let inside = inside_64_bits n k in
+    let below : behind < 18446744073709551616 = omega (arith, inside, h) in
+    (below, carried_most behind below)
+
 -- By this bound a piece might have 17,179,869,180 bytes, and not four more.
 pub no_longer_piece : (most_behind (17179869180 / 4) < 18446744073709551616) × (18446744073709551616 ≤ most_behind (17179869180 / 4 + 1))
 no_longer_piece = (omega arith, omega arith)

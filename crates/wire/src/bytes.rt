@@ -1,7 +1,7 @@
 // Readers of a buffer of any length: a byte past the end reads as 0. Whoever has to tell a short frame from
 // zeros looks at its length first, as document 01's order of tests does. Beside them the bytes of a number,
 // for whoever writes one.
-ghost use Rattle.std.specs.Prelude.{◌≡◌};
+ghost use Rattle.std.specs.Prelude.{◌≡◌, ◌<◌, length};
 ghost use Rattle.base.specs.Bytes.{u8_at, u16_at, u32_at, bytes_at as Bytes·bytes_at, be32 as Bytes·be32};
 
 pub fn byte_at(buf: &[u8], at: usize) -> u8
@@ -10,18 +10,38 @@ pub fn byte_at(buf: &[u8], at: usize) -> u8
     buf.get(at).copied().unwrap_or(0)
 }
 
-// As many bytes as the caller's array has: `let mac: [u8; 6] = bytes_at(frame, 6);`. (Each turn reads at a
-// place, so an iterator would have to count it beside.)
+// As many bytes as the caller's array has: `let mac: [u8; 6] = bytes_at(frame, 6);`.
 pub fn bytes_at<const N: usize>(buf: &[u8], at: usize) -> [u8; N]
     ensures { result ≡ Bytes·bytes_at buf.now at N }
 {
+    match buf.get(at..) {
+        Some(rest) => match rest.first_chunk() {
+            Some(bytes) => *bytes,
+            None => padded(rest),
+        },
+        None => [0; N],
+    }
+}
+
+// The same where the buffer ends inside of them, with no loop up to six, the most that a field has: of six
+// the last isn't there. (Of more, which no caller reads, those that are left are copied.)
+fn padded<const N: usize>(rest: &[u8]) -> [u8; N]
+    requires { length rest.now < N }
+    ensures { result ≡ Bytes·bytes_at rest.now 0 N }
+{
+    let six = [
+        byte_at(rest, 0),
+        byte_at(rest, 1),
+        byte_at(rest, 2),
+        byte_at(rest, 3),
+        byte_at(rest, 4),
+        0,
+    ];
+    if let Some(bytes) = six.first_chunk() {
+        return *bytes;
+    }
     let mut bytes = [0; N];
-    if buf.len() <= at {
-        return bytes;
-    }
-    for i in 0..N {
-        bytes[i] = byte_at(buf, at + i);
-    }
+    bytes[..rest.len()].copy_from_slice(rest);
     bytes
 }
 

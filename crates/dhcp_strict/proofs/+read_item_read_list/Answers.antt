@@ -1,14 +1,18 @@
 -- `read_item` and `read_list`, which call each other, meet their contracts: each answer is a law of `Listing`.
-use Prim.Native.Nat.{ℕ, ◌+◌}
-use mathlib.Core.Path.{sym, subst}
+use Prim.Native.Nat.{ℕ}
+use mathlib.Core.Path.{◌≡◌, sym, subst}
+use mathlib.Core.List.{List}
 use native.Mathlib.Omega.{arith}
-use Rattle.std.proofs.Common.{Some, None, if◌then◌else◌}
-use Rattle.base.specs.Bytes.{u8_at}
+use Rattle.std.proofs.Common.{Option, Some}
 use Rattle.dhcp_strict.specs.helpers.Listed.{Listed}
 use Rattle.dhcp_strict.proofs.Listing.{past, end_told, pad_on, option_cut, option_over, other_on, second_type, type_length, type_small, type_large, type_on}
 use Rattle.dhcp_strict.proofs.+read_item_read_list.Goals as goal
 
 -- AN ITEM
+-- what is told of a list holds wherever the same place and the same type are written otherwise
+moved_on : (frame : List ℕ) (a b m n : ℕ) (r : Option ℕ) → Listed frame a (Some m) r → a ≡ b → m ≡ n → Listed frame b (Some n) r
+moved_on frame a b m n r h e f = subst (λ (k : ℕ). Listed frame b (Some k) r) f (subst (λ (k : ℕ). Listed frame k (Some m) r) e h)
+
 pub read_item-returns-then-code-eq-PAD : goal.read_item-returns-then-code-eq-PAD
 read_item-returns-then-code-eq-PAD t c =
     pad_on _ _ _ c.requires.inside c.if-code-eq-PAD.true _ c.read_list.ensures
@@ -46,8 +50,7 @@ pub read_item-returns : goal.read_item-returns
 read_item-returns t c =
     type_on _ _ _ c.requires.inside c.if-code-eq-PAD.false c.requires.not_end _ (sym c.from-len.ensures) c.if-code-ne-MESSAGE_TYPE.false (omega arith)
     (grind (arith, c.if-is_some.ensures)) c.if-len-ne1.false (omega arith) (omega arith) _
-    (subst (λ (n : ℕ). Listed c.args.frame.now n (Some (u8_at c.args.frame.now (c.args.at + 2))) (if c.read_list-2.result then c.read_list-2.new.seen else None))
-    (omega (arith, c.if-len-ne1.false)) c.read_list-2.ensures)
+    (moved_on _ _ _ _ _ _ c.read_list-2.ensures (omega (arith, c.if-len-ne1.false)) (omega arith))
 
 -- A LIST
 pub read_list-returns-then-frame-at : goal.read_list-returns-then-frame-at

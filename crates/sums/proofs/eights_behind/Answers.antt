@@ -1,6 +1,7 @@
 -- `eights_behind` meets its contract. The invariant: there is a sum of the lower halves, which the sum of all tells; 256 times the sums so far and the
 -- sum of what is left fold as the whole; and each is as large as as many halves can be at most, the lower ones with what was there before.
-use Rattle.std.proofs.Common.{◌≡◌, ℕ, ◌+◌, ◌*◌, ◌/◌, ◌%◌, ◌^◌, ◌<◌, List, [], get_or, drop, flat_map, sym, ap, ◌∙◌, arith}
+use Rattle.std.proofs.Common.{◌≡◌, ℕ, w64, ◌+◌, ◌*◌, ◌/◌, ◌%◌, ◌^◌, ◌<◌, List, [], get_or, drop, flat_map, sym, ap, ◌∙◌, arith}
+use Rattle.std.specs.Int.{from_le_bytes}
 use Rattle.sums.specs.Rfc1071.{total, fold}
 use Rattle.sums.proofs.Folding.{fold_to_32_scaled}
 use Rattle.sums.proofs.Chunks.{fold_step, joined_from, none_joined}
@@ -33,6 +34,7 @@ loop-eight-preserved c =
     let eight = get_or s l.eight-index [] in
     let behind = flat_map (λ (e : List ℕ). e) (drop (l.eight-index + 1) s) in
     let next = c.from_le_bytes-next.result in
+    let low_first : next ≡ from_le_bytes w64 eight = omega (arith, c.from_le_bytes-next.ensures) in
     let halves = l.invariant in
     let so_far = halves.lower + l.upper in record {
       lower = halves.lower + next % 2 ^ 32;
@@ -42,7 +44,7 @@ loop-eight-preserved c =
       folds =
           ap fold (omega (arith, c.with_upper_half-upper.ensures.value))
           ∙ halved so_far next (total behind)
-          ∙ ap (λ (n : ℕ). fold ((so_far + n) * 256 + total behind)) c.from_le_bytes-next.ensures
+          ∙ ap (λ (n : ℕ). fold ((so_far + n) * 256 + total behind)) low_first
           ∙ fold_step eight behind so_far (c.told-eights l.eight-index (omega arith))
           ∙ ap (λ (left : List ℕ). fold (so_far * 256 + total left)) (sym (joined_from s l.eight-index (omega arith)))
           ∙ halves.folds;

@@ -1,5 +1,5 @@
 -- `tcp::build_frame` meets its contract: the headers, the segment's header, its options and the data, put one behind the other, are the frame at the buffer's front.
-use Prim.Native.Nat.{ℕ, ◌+◌, ◌-◌}
+use Prim.Native.Nat.{ℕ, ◌+◌, ◌<◌}
 use mathlib.Core.Path.{◌≡◌, refl, ap, ◌∙◌}
 use mathlib.Core.List.{List, ◌++◌}
 use native.Mathlib.Omega.{arith}
@@ -18,15 +18,16 @@ use Rattle.tcp.proofs.build_frame.Goals as goal
 pub returns-in_err-data_len : goal.returns-in_err-data_len
 returns-in_err-data_len c =
     let o = c.options-options.ensures in
-    let limit : 65495 - length c.options-options.result.now ≡ data_limit_lem c.args.flags = omega (arith, ap length o.0, limit_holds c.args.flags) in
-    exit_too_long _ _ _ _ _ _ _ _ c.from_residual.ensures.1 (rw limit at c.in_err-data_len.ensures)
+    let past = c.in_err-data_len.ensures in
+    let over : data_limit_lem c.args.flags < length c.args.data.now = omega (arith, past.0, o.1, ap length o.0, limit_holds c.args.flags) in
+    exit_too_long _ _ _ _ _ _ _ _ c.from_residual.ensures.1 (over, past.1)
 
 pub returns-in_err-need : goal.returns-in_err-need
 returns-in_err-need c =
     let o = c.options-options.ensures in
     let len = c.in_ok-data_len.ensures in
     let need : 34 + (20 + length c.options-options.result.now + c.in_ok-data_len.data_len) ≡ 54 + length (options c.args.flags) + length c.args.data.now = omega (arith, ap length o.0) in
-    exit_no_room _ _ _ _ _ _ _ _ c.from_residual-in_err-need.ensures.1 (omega (arith, ap length o.0, limit_holds c.args.flags)) (rw need at c.in_err-need.ensures)
+    exit_no_room _ _ _ _ _ _ _ _ c.from_residual-in_err-need.ensures.1 (omega (arith, o.1, ap length o.0, limit_holds c.args.flags)) (rw need at c.in_err-need.ensures)
 
 pub returns : goal.returns
 returns c =
@@ -49,5 +50,5 @@ returns c =
     let three = behind_as two (options a.flags) (length (options a.flags)) refl (omega arith) _ o.0 c.put-2.ensures in
     let four = behind_as three d (length d) refl (omega arith) _ refl (rw (ap length o.0) at c.put-3.ensures) in
     rw room.1
-    (written _ _ _ _ _ _ _ (omega (arith, ap length o.0, limit_holds a.flags)) room.0
+    (written _ _ _ _ _ _ _ (omega (arith, o.1, ap length o.0, limit_holds a.flags)) room.0
     (four.bytes ∙ put_front _ a.out.now ∙ ap (λ (frame : List ℕ). frame ++ drop (length frame) a.out.now) (four_pieces e a.seq a.ack a.flags d a.id)))

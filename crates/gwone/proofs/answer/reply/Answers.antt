@@ -4,4 +4,4 @@ use Rattle.gwone.proofs.Adding.{length_hex}
 use Rattle.gwone.proofs.answer.reply.Goals as goal
 
 pub push-requires : goal.push-requires
-push-requires c = rw (c.push_hex.ensures, length-append, length_hex) (omega (arith, c.line-text.ensures.upper_bound))
+push-requires c = rw (c.push_hex.ensures, length-append, length_hex) (omega (arith, c.line.ensures.upper_bound))
