@@ -1,5 +1,5 @@
 // What a caller may do with answers: pass one by value more than once, and make a fragment of any numbers.
-// With an `impl Model` on `Fragment` none of the three tests gets a proof.
+// With an `impl Model` on `Fragment` there is no proof of `is_fit`, of `is_ruled` and of the last test.
 use fragment_packets::{Datagram, Fragment, Packet, read};
 use fragment_rules::{Refusal, Ruling, State, rule};
 
@@ -38,16 +38,20 @@ fn is_pass(ruling: Result<Ruling, Refusal>) -> bool {
     }
 }
 
-#[test]
-fn a_packet_is_used_twice(rt: HostRuntime) {
-    let packet = read(&FIRST);
-    assert!(rt; is_part(packet) && !is_whole(packet));
+fn is_fit(frame: &[u8]) -> bool {
+    let packet = read(frame);
+    is_whole(packet) || is_part(packet)
+}
+
+fn is_ruled(frame: &[u8], bits: &[u64]) -> bool {
+    let ruling = rule(State::Empty, frame, 65_515, bits);
+    is_pass(ruling) || is_write(ruling)
 }
 
 #[test]
-fn a_ruling_is_used_twice(rt: HostRuntime) {
-    let ruling = rule(State::Empty, &FIRST, 65_515, &[0; 128]);
-    assert!(rt; is_write(ruling) && !is_pass(ruling));
+fn answers_are_used_twice(rt: HostRuntime) {
+    assert!(rt; is_fit(&FIRST) && !is_fit(&FIRST[1..]));
+    assert!(rt; is_ruled(&FIRST, &[0; 128]) && !is_ruled(&FIRST, &[1; 128]));
 }
 
 #[test]

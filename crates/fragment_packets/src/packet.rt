@@ -22,7 +22,7 @@ pub struct Datagram {
 
 // A fragment: its datagram, where its payload stands in the frame, its place in the datagram's
 // payload, and whether it is the last. Any numbers may stand in it; one of `read` ends within the longest
-// payload. (With an invariant that says so, a `Packet` could not be passed by value twice.)
+// payload. (With an invariant that says so, callers that pass a `Packet` by value twice had no proof.)
 #[derive(Clone, Copy)]
 pub struct Fragment {
     pub datagram: Datagram,
