@@ -2,7 +2,7 @@
 use Rattle.std.proofs.Common.{◌<◌, refl, arith}
 use Rattle.vectors.proofs.Reading.{starts, past_space, wrong, full, first, second, whole, broken, refused, taken}
 use Rattle.vectors.proofs.lines.read_bytes.Goals as goal
-use Rattle.vectors.proofs.lines.read_bytes.Goals.{in-Some, in-None}
+use Rattle.vectors.proofs.lines.read_bytes.Goals.{in-Some+else-line-len, in-None}
 
 pub loop-sign-init : goal.loop-sign-init
 loop-sign-init c = (starts _ _, tt)
@@ -23,7 +23,7 @@ loop-sign-preserved c =
     let l = c.loop-sign in
     let low = c.in_ok-low in
     elim c.match-high.branch [
-      | in-Some w ↦
+      | in-Some+else-line-len w ↦
           let half = rw w.in-Some.is at l.invariant.0 in
           let small : w.in-Some.first < 16 = rw w.in-Some.is at l.invariant.1 in
           rw (w.line-is, w.len-is, w.high-is)
