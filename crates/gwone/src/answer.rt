@@ -37,21 +37,12 @@ fn new_guest() -> Guest
     make(GUEST_MAC, GATEWAY, GUEST, MASK, Some(LEASE)).unwrap()
 }
 
-// All that is printed for `input`.
-pub fn printed(input: &[u8]) -> Text
-    ensures { result ≡ printed input.now }
-{
-    let mut text = Text::new();
-    print(input, &mut text);
-    text
-}
-
-// The same in a text that is handed from call to call. (As each call's own result it took four times the
-// stack.)
-fn print(input: &[u8], text: &mut Text)
-    requires { text.old ≡ [] }
+// All that is printed for `input`, in a text that is lent. (As each call's own result it was kept six times over,
+// and took four times the stack.)
+pub fn printed(input: &[u8], text: &mut Text)
     ensures { text.new ≡ printed input.now }
 {
+    text.clear();
     if FRAME_LIMIT < input.len() {
         return line(b"input over 2048", &[], text);
     }

@@ -1,9 +1,9 @@
--- `answer::print` writes one text for an input that is too long, and else the text of what the gateway promises.
+-- `answer::printed` writes one text for an input that is too long, and else the text of what the gateway promises.
 use mathlib.Core.Path.{refl, ◌∙◌}
 use borrow.Author.Tests.{lt-ltb, le-ltb}
 use Rattle.gwone.specs.Printed.{printed}
 use Rattle.gwone.proofs.Called.{call_text}
-use Rattle.gwone.proofs.answer.print.Goals as goal
+use Rattle.gwone.proofs.answer.printed.Goals as goal
 
 pub returns-then-input-gt-FRAME_LIMIT : goal.returns-then-input-gt-FRAME_LIMIT
 unfolding printed
