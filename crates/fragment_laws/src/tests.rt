@@ -74,5 +74,8 @@ fn a_fragment_holds_any_numbers(rt: HostRuntime) {
         length: usize::MAX,
         ..last
     };
-    assert!(rt; (past.first_block(), past.end()) == (8_189, usize::MAX));
+    // Eights in 2^64 - 1 bytes: 2^61, the last of them short of a byte.
+    assert!(rt;
+        (past.first_block(), past.end(), past.stop_block()) == (8_189, usize::MAX, 1 << 61)
+    );
 }

@@ -1,5 +1,6 @@
 // What a frame is: RFC 791, sections 3.1 and 3.2, as document 02 condenses them.
 ghost use Rattle.std.specs.Prelude.{◌≡◌, ◌-◌, ◌^◌, ◌≤◌, ◌<◌, min};
+ghost use Rattle.bitmap.specs.Bitmap.{blocks_of_lem};
 ghost use Rattle.fragment_packets.specs.Packets.{sound, sound_header, packet_of, is_whole_lem, good_length, datagram_of_lem, end_of, first_block, stop_block};
 
 use bitmap::BLOCK;
@@ -48,10 +49,12 @@ impl Fragment {
         self.offset / BLOCK
     }
 
-    // The block behind its last. It counts as `blocks_of` does, which takes 32 bits, and an end may have 64.
+    // The block behind its last, where it ends as `end` says. It counts as `blocks_of` does, which takes 32 bits,
+    // and an end may have 64.
     #[tactic(auto, unfolding(bitmap::specs::Bitmap::blocks_of_lem))]
     pub fn stop_block(self) -> usize
-        ensures { end_of self < 2 ^ 64 → result ≡ stop_block self }
+        ensures place { result ≡ blocks_of_lem (min (end_of self) (2 ^ 64 - 1)) }
+        ensures below { end_of self < 2 ^ 64 → result ≡ stop_block self }
     {
         self.end().div_ceil(BLOCK)
     }
